@@ -1,0 +1,58 @@
+-- Lists of calls: refused calls drop out, and the accepted ones do what one run over their joined inputs does. Proved once for
+-- every kind of call, from how a run over a list of inputs falls into two parts.
+-- Assumes nothing.
+use mathlib.Core.Path.{_≡_, refl, sym, ap, ap₂, _∙_}
+use mathlib.Core.Bool.{cond}
+use mathlib.Core.List.{List, [], _∷_, _++_}
+use Prim.Native.Nat.{ℕ, suc}
+use lib.Dec.{eqb·suc-zero}
+use lib.ListN.{length, drop}
+use lib.Seq.{take-append-seam}
+use Rattle.calls.specs.Outcome.{Outcome, refused, accepted, isAccepted, front}
+use Rattle.calls.specs.Lists.{joined, stateAfter}
+
+-- A run over a list of inputs: the state after it and what it gives.
+pub record Run {S I A : Type 0} (after : S → List I → S) (gives : S → List I → List A) : Type 0 where
+  pub after-none : (s : S) → after s [] ≡ s
+  pub gives-none : (s : S) → gives s [] ≡ []
+  pub after-append : (s : S) (xs ys : List I) → after s (xs ++ ys) ≡ after (after s xs) ys
+  pub gives-append : (s : S) (xs ys : List I) → gives s (xs ++ ys) ≡ gives s xs ++ gives (after s xs) ys
+
+module _ {S I A : Type 0} (after : S → List I → S) (gives : S → List I → List A) (run : Run after gives) where
+  -- the inputs that a call takes: none if it is refused
+  abbrev taken : Outcome S A → List I → List I
+  taken o inputs = cond (isAccepted o) inputs []
+
+  -- A call that runs over its inputs if it is accepted, and does nothing if it is refused.
+  pub record Runs (inputs : List I) (s : S) (o : Outcome S A) : Type 0 where
+    pub state : o .state ≡ after s (taken o inputs)
+    pub wrote : cond (isAccepted o) (front o) [] ≡ gives s (taken o inputs)
+
+  pub refused-runs : (n : ℕ) (s : S) (inputs : List I) (lent : List A) → Runs inputs s (refused (suc n) s lent)
+  refused-runs n s inputs lent =
+      record { state = rw (eqb·suc-zero n) (sym (run .after-none s)); wrote = rw (eqb·suc-zero n) (sym (run .gives-none s)) }
+
+  pub accepted-runs : (s : S) (inputs : List I) (lent : List A) → Runs inputs s (accepted (after s inputs) (gives s inputs) lent)
+  accepted-runs s inputs lent =
+      record { state = refl; wrote = take-append-seam (gives s inputs) (drop (length (gives s inputs)) lent) }
+
+  module _ {C : Type 0} (rule : S → C → Outcome S A) (inputs : C → List I) (law : (s : S) (c : C) → Runs (inputs c) s (rule s c)) where
+    -- the inputs of the accepted calls
+    abbrev pub inputsIn : S → List C → List I
+    inputsIn = joined rule (λ o c. inputs c)
+
+    pub joined-state : (cs : List C) (s : S) → stateAfter rule s cs ≡ after s (inputsIn s cs)
+    unfolding joined stateAfter
+    joined-state [] s = sym (run .after-none s)
+    joined-state (c ∷ cs) s =
+        joined-state cs (rule s c .state)
+        ∙ ap (λ (t : S). after t (inputsIn (rule s c .state) cs)) (law s c .state)
+        ∙ sym (run .after-append s (taken (rule s c) (inputs c)) (inputsIn (rule s c .state) cs))
+
+    pub joined-front : (cs : List C) (s : S) → joined rule (λ o c. front o) s cs ≡ gives s (inputsIn s cs)
+    unfolding joined
+    joined-front [] s = sym (run .gives-none s)
+    joined-front (c ∷ cs) s =
+        ap₂ (λ (l m : List A). l ++ m) (law s c .wrote)
+        (joined-front cs (rule s c .state) ∙ ap (λ (t : S). gives t (inputsIn (rule s c .state) cs)) (law s c .state))
+        ∙ sym (run .gives-append s (taken (rule s c) (inputs c)) (inputsIn (rule s c .state) cs))

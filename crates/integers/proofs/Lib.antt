@@ -1,0 +1,5 @@
+pub mod Ring
+pub mod Size
+pub mod Near
+pub mod Tests
+pub mod Lists

@@ -1,0 +1,31 @@
+-- A list that is altered by at most n at each place: its dot product with weights moves by at most n times their size.
+-- This is how a disturbance of the samples reaches the sums that a receiver forms. From the ring laws and the sizes.
+-- Assumes nothing.
+use mathlib.Core.Path.{_≡_, sym, ap, _∙_}
+use mathlib.Core.List.{List, [], _∷_}
+use Prim.Native.Nat.{ℕ, _+_, _*_, _≤_, zero-le}
+use native.Mathlib.Nat.{le-trans, add-le-add, mul-le-mul-right, mul-add}
+use lib.IntN.{ℤ, negℤ, natAbs, _+ℤ_, _-ℤ_, _*ℤ_, negℤ-+ℤ}
+use Rattle.integers.specs.Sums.{size, dot}
+use Rattle.integers.specs.Near.{Near, none, more}
+use Rattle.integers.proofs.Ring.{+ℤ-swap, +ℤ-*ℤ, negℤ-*ℤ}
+use Rattle.integers.proofs.Size.{natAbs-+ℤ, natAbs-*ℤ}
+
+-- one place: d of at most n with the weight w, before a rest of at most n times m
+place : (n : ℕ) (d w r : ℤ) (m : ℕ) → natAbs d ≤ n → natAbs r ≤ n * m → natAbs (d *ℤ w +ℤ r) ≤ n * (natAbs w + m)
+place n d w r m h k =
+    le-trans (natAbs-+ℤ (d *ℤ w) r) (rw (natAbs-*ℤ d w, mul-add n (natAbs w) m) (add-le-add (mul-le-mul-right (natAbs w) h) k))
+
+-- the difference of two sums, place by place
+apart : (x y w a b : ℤ) → (y *ℤ w +ℤ b) -ℤ (x *ℤ w +ℤ a) ≡ (y -ℤ x) *ℤ w +ℤ (b -ℤ a)
+apart x y w a b =
+    ap (λ (z : ℤ). y *ℤ w +ℤ b +ℤ z) (negℤ-+ℤ (x *ℤ w) a)
+    ∙ +ℤ-swap (y *ℤ w) b (negℤ (x *ℤ w)) (negℤ a)
+    ∙ ap (λ (z : ℤ). z +ℤ (b -ℤ a)) (ap (λ (z : ℤ). y *ℤ w +ℤ z) (sym (negℤ-*ℤ x w)) ∙ sym (+ℤ-*ℤ y (negℤ x) w))
+
+pub near-dot : {n : ℕ} {xs ys : List ℤ} → Near n xs ys → (ws : List ℤ) → natAbs (dot ys ws -ℤ dot xs ws) ≤ n * size ws
+unfolding dot size
+near-dot none ws = zero-le
+near-dot (more h r) [] = zero-le
+near-dot {n} (more {x} {y} {xs} {ys} h r) (w ∷ ws) =
+    rw (apart x y w (dot xs ws) (dot ys ws)) (place n (y -ℤ x) w (dot ys ws -ℤ dot xs ws) (size ws) h (near-dot r ws))

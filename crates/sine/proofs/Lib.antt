@@ -1,0 +1,5 @@
+mod Quarter
+pub mod Laws
+pub mod Rule
+pub mod Wave
+pub mod Examples

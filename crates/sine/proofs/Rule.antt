@@ -1,0 +1,54 @@
+-- S has the rule of document 01, and it is the only function that has it.
+-- Assumes nothing.
+use mathlib.Core.Path.{_≡_, refl, _∙_, sym, ap}
+use Prim.Native.Nat.{ℕ, zero, suc, _+_, _*_, _-_, _/_, _%_, _<_, _≤_}
+use native.Mathlib.Nat.{suc-mul, mod-add-div'}
+use native.Mathlib.Decide.{decLt}
+use native.Mathlib.Omega.{arith}
+use lib.IntN.{ℤ, negℤ}
+use Rattle.sine.specs.Sine.{S, SineRule}
+use Rattle.sine.proofs.Quarter.{rule, unique}
+use Rattle.sine.proofs.Laws.{S-nearest, S-mirror, S-opposite, S-period, S-mod}
+
+pub S-rule : SineRule S
+S-rule =
+    record {
+      quarter = λ p h. rw (S-nearest p h) (rule p h);
+      mirror = S-mirror;
+      opposite = S-opposite;
+      period = S-period;
+    }
+
+module _ (f : ℕ → ℤ) (r : SineRule f) where
+  first : (p : ℕ) → p ≤ 480 → f p ≡ S p
+  first p h = unique p (f p) h (r .quarter p h) ∙ sym (S-nearest p h)
+
+  half : (p : ℕ) → p < 960 → f p ≡ S p
+  half p h = go (decLt 480 p)
+    where
+      go : Dec (480 < p) → f p ≡ S p
+      go (yes l) =
+          let q : 960 - p ≤ 480 = omega arith in
+          let e : 960 - (960 - p) ≡ p = omega arith in
+          ap f (sym e) ∙ r .mirror (960 - p) q ∙ first (960 - p) q ∙ sym (S-mirror (960 - p) q) ∙ ap S e
+      go (no g) = first p (omega arith)
+
+  cycle : (p : ℕ) → p < 1920 → f p ≡ S p
+  cycle p h = go (decLt p 960)
+    where
+      go : Dec (p < 960) → f p ≡ S p
+      go (yes l) = half p l
+      go (no g) =
+          let e : p - 960 + 960 ≡ p = omega arith in
+          ap f (sym e) ∙ r .opposite (p - 960) ∙ ap negℤ (half (p - 960) (omega arith)) ∙ sym (S-opposite (p - 960)) ∙ ap S e
+
+  cycles : (p k : ℕ) → f (p + k * 1920) ≡ f p
+  cycles p zero = let e : p + 0 * 1920 ≡ p = omega arith in ap f e
+  cycles p (suc k) =
+      let e : p + suc k * 1920 ≡ p + k * 1920 + 1920 = omega arith in
+      ap f e ∙ r .period (p + k * 1920) ∙ cycles p k
+
+  pub S-only : (p : ℕ) → f p ≡ S p
+  S-only p =
+      let e : p % 1920 + p / 1920 * 1920 ≡ p = mod-add-div' p 1920 in
+      ap f (sym e) ∙ cycles (p % 1920) (p / 1920) ∙ cycle (p % 1920) (omega arith) ∙ S-mod p

@@ -1,0 +1,31 @@
+-- Laws of `wave`: its length, its entries, and that the phase counts modulo 1,920.
+-- Assumes nothing.
+use mathlib.Core.Path.{_≡_, refl, _∙_, ap, ap₂}
+use mathlib.Core.List.{List, _∷_}
+use Prim.Native.Nat.{ℕ, zero, suc, _+_, _*_, _%_, _<_}
+use native.Mathlib.Nat.{suc-mul, not-suc-le-zero, le-of-suc-le-suc}
+use native.Mathlib.Omega.{arith}
+use lib.IntN.{ℤ, pos}
+use lib.ListN.{length, getD}
+use Rattle.sine.specs.Sine.{S}
+use Rattle.sine.specs.Wave.{wave}
+use Rattle.sine.proofs.Laws.{S-same}
+
+pub length-wave : (n s p : ℕ) → length (wave n s p) ≡ n
+unfolding wave
+length-wave zero s p = refl
+length-wave (suc n) s p = ap suc (length-wave n s (p + s))
+
+pub wave-at : (n s p j : ℕ) → j < n → getD (wave n s p) j (pos 0) ≡ S (p + j * s)
+unfolding wave
+wave-at zero s p j h = absurd (not-suc-le-zero h)
+wave-at (suc n) s p zero h = ap S (omega arith)
+wave-at (suc n) s p (suc j) h =
+    let e : p + s + j * s ≡ p + suc j * s = omega (arith, suc-mul j s) in
+    wave-at n s (p + s) j (le-of-suc-le-suc h) ∙ ap S e
+
+-- phases that are equal modulo 1,920
+pub wave-same : (n s p q : ℕ) → p % 1920 ≡ q % 1920 → wave n s p ≡ wave n s q
+unfolding wave
+wave-same zero s p q e = refl
+wave-same (suc n) s p q e = ap₂ (λ (x : ℤ) (xs : List ℤ). x ∷ xs) (S-same p q e) (wave-same n s (p + s) (q + s) (omega arith))

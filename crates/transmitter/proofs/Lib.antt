@@ -1,0 +1,5 @@
+pub mod Laws
+pub mod Rules
+mod Progress
+pub mod Lists
+pub mod Examples

@@ -1,0 +1,70 @@
+-- Demand 2 over lists of calls, from the law of lists of calls and the laws of sending.
+-- Assumes nothing.
+use mathlib.Core.Path.{_≡_, refl, _∙_, ap}
+use mathlib.Core.Bool.{not}
+use mathlib.Core.List.{List}
+use Prim.Native.Nat.{ℕ, suc, _*_, _%_}
+use lib.Dec.{ltb}
+use lib.IntN.{ℤ, pos}
+use lib.ListN.{length, getD}
+use Rattle.integers.proofs.Tests.{cond-case}
+use Rattle.calls.specs.Outcome.{Outcome, refused}
+use Rattle.calls.specs.Lists.{stateAfter}
+use Rattle.calls.proofs.Lists.{Run, Runs, refused-runs, accepted-runs, joined-state, joined-front}
+use Rattle.tones.specs.Bands.{tonesOf}
+use Rattle.transmitter.specs.declared.Transmitter.{Transmitter}
+use Rattle.transmitter.specs.Sending.{send, phaseAfter, bitSteps}
+use Rattle.transmitter.specs.Calls.{stateOk, samplesOf, behind, sent, idleOf, charactersOf}
+use Rattle.transmitter.specs.Lists.{Call, idle, characters, callOf, bitsOf, samplesWritten, stepsSent, Continuous}
+use Rattle.transmitter.proofs.Laws.{length-send, send-at, phase-total, send-bits-append, phase-bits-append}
+
+-- sending bits from a state is a run over them
+sending-run : Run behind samplesOf
+unfolding send phaseAfter bitSteps
+sending-run =
+    record {
+      after-none = λ s. refl;
+      gives-none = λ s. refl;
+      after-append = λ s xs ys. λ i. record { band = s .band; phase = phase-bits-append (tonesOf (s .band)) (s .phase) xs ys i };
+      gives-append = λ s. send-bits-append (tonesOf (s .band)) (s .phase);
+    }
+
+-- each call is one
+abbrev CallRuns : Call → Transmitter → Outcome Transmitter ℤ → Type 0
+CallRuns c = Runs behind samplesOf sending-run (bitsOf c)
+
+module _ (c : Call) (s : Transmitter) (lent : List ℤ) where
+  refuses : (n : ℕ) → CallRuns c s (refused (suc n) s lent)
+  refuses n = refused-runs behind samplesOf sending-run n s (bitsOf c) lent
+
+  sends : CallRuns c s (sent s (bitsOf c) lent)
+  sends = accepted-runs behind samplesOf sending-run s (bitsOf c) lent
+
+call-runs : (s : Transmitter) (c : Call) → CallRuns c s (callOf s c)
+unfolding idleOf charactersOf
+call-runs s (idle lent) =
+    let c = idle lent in
+    cond-case (CallRuns c s) (not (stateOk s)) _ _ (λ e. refuses c s lent 1)
+    (λ e. cond-case (CallRuns c s) (ltb (length lent) 96) _ _ (λ e. refuses c s lent 3)
+    (λ e. sends c s lent))
+call-runs s (characters bytes lent) =
+    let c = characters bytes lent in
+    cond-case (CallRuns c s) (not (stateOk s)) _ _ (λ e. refuses c s lent 1)
+    (λ e. cond-case (CallRuns c s) (ltb 100 (length bytes)) _ _ (λ e. refuses c s lent 2)
+    (λ e. cond-case (CallRuns c s) (ltb (length lent) (320 * length bytes)) _ _ (λ e. refuses c s lent 3)
+    (λ e. sends c s lent)))
+
+pub continuous : (s : Transmitter) (calls : List Call) → Continuous s calls
+continuous s calls =
+    record {
+      long = ap length wrote ∙ length-send (s .phase) (stepsSent s calls);
+      sample = λ i h. ap (λ (l : List ℤ). getD l i (pos 0)) wrote ∙ send-at (s .phase) (stepsSent s calls) i h;
+      phase = ap (λ (t : Transmitter). t .phase % 1920) state ∙ phase-total (s .phase) (stepsSent s calls);
+      band = ap (λ (t : Transmitter). t .band) state;
+    }
+  where
+    wrote : samplesWritten s calls ≡ send (s .phase) (stepsSent s calls)
+    wrote = joined-front behind samplesOf sending-run callOf bitsOf call-runs calls s
+
+    state : stateAfter callOf s calls ≡ record { band = s .band; phase = phaseAfter (s .phase) (stepsSent s calls) }
+    state = joined-state behind samplesOf sending-run callOf bitsOf call-runs calls s

@@ -1,0 +1,87 @@
+-- `transmitter::Transmitter::characters` meets its contract: each return is one case of the rule.
+-- Assumes nothing.
+use mathlib.Core.Path.{_≡_, sym, _∙_}
+use mathlib.Core.Bool.{true}
+use Prim.Native.Nat.{_*_}
+use native.Mathlib.Omega.{arith}
+use borrow.Author.Needs.{needs}
+use borrow.Author.Tests.{not-true, not-false}
+use lib.ListN.{length}
+use Rattle.transmitter.specs.Sending.{textBits}
+use Rattle.transmitter.specs.Calls.{stateOk}
+use Rattle.transmitter.proofs.Laws.{length-text}
+use Rattle.transmitter.proofs.Rules.{characters-2, characters-3, characters-4, characters-0, refusal, sending}
+use Rattle.transmitter.proofs.Transmitter.characters.Statement.{statement}
+use Rattle.transmitter.proofs.Transmitter.characters.Tie as tie
+
+is-ok-requires : tie.Need-is-ok-requires
+is-ok-requires c κs = tt
+
+refused-requires : tie.Need-refused-requires
+refused-requires c κs = tt
+
+-- the state is in its ranges
+in-range : (c : tie.Else1) → stateOk (c .before .before .before .args .self) ≡ true
+in-range c = sym (c .before .is-ok .ensures) ∙ not-false (c .before .is-ok .result) (c .if1 .left)
+
+returns : tie.Need-returns
+returns c =
+    let a = c .before .before .before .before .args in
+    let out-of-range = sym (c .before .before .is-ok .ensures) ∙ not-true (c .before .before .is-ok .result) (c .before .if1 .taken) in
+    refusal (c .refused .result) 2 (a .self) (a .out .now) (characters-2 (a .self) (a .bytes .now) (a .out .now) out-of-range) (c .refused .ensures)
+
+refused-requires-2 : tie.Need-refused-requires-2
+refused-requires-2 c κs = tt
+
+returns-2 : tie.Need-returns-2
+returns-2 c =
+    let a = c .before .before .before .before .before .args in
+    refusal (c .refused2 .result) 3 (a .self) (a .out .now)
+    (characters-3 (a .self) (a .bytes .now) (a .out .now) (in-range (c .before .before)) (c .before .if2 .taken)) (c .refused2 .ensures)
+
+mul-count : tie.Need-mul-count
+mul-count c = search needs
+
+refused-requires-3 : tie.Need-refused-requires-3
+refused-requires-3 c κs = tt
+
+returns-3 : tie.Need-returns-3
+returns-3 c =
+    let a = c .before .before .before .before .before .before .args in
+    refusal (c .refused3 .result) 4 (a .self) (a .out .now)
+    (characters-4 (a .self) (a .bytes .now) (a .out .now) (in-range (c .before .before .before)) (c .before .before .if2 .left) (c .before .if3 .taken)) (c .refused3 .ensures)
+
+tones-of-requires : tie.Need-tones-of-requires
+tones-of-requires c κs = tt
+
+put-text-requires : tie.Need-put-text-requires
+put-text-requires c κs = search needs
+
+same-length : tie.Need-same-length
+same-length c = search needs
+
+returns-4 : tie.Need-returns-4
+returns-4 c =
+    let a = c .before .before .before .before .before .before .before .before .before .args in
+    let few = c .before .before .before .before .before .if2 .left in
+    let room = c .before .before .before .before .if3 .left in
+    sending (a .self) (textBits (a .bytes .now)) (a .out .now) (c .before .before .before .tones-of .result) (c .before .put-text .result) (320 * length (a .bytes .now)) (c .before .put-text .last .0)
+    (characters-0 (a .self) (a .bytes .now) (a .out .now) (in-range (c .before .before .before .before .before .before)) few room)
+    (c .before .before .before .tones-of .ensures) (c .before .put-text .ensures .0) (c .before .put-text .ensures .1) (omega (arith, length-text (a .bytes .now))) room
+
+pub characters-spec : {M : Type 1} → statement M
+characters-spec =
+    tie.close
+    (tie.spec
+    is-ok-requires
+    refused-requires
+    returns
+    refused-requires-2
+    returns-2
+    mul-count
+    refused-requires-3
+    returns-3
+    tones-of-requires
+    put-text-requires
+    same-length
+    returns-4)

@@ -1,0 +1,71 @@
+-- `transmitter::Transmitter::idle` meets its contract: each return is one case of the rule.
+-- Assumes nothing.
+use mathlib.Core.Path.{_≡_, refl, sym, _∙_}
+use mathlib.Core.Bool.{true}
+use native.Mathlib.Omega.{arith}
+use borrow.Author.Needs.{needs}
+use borrow.Author.Tests.{not-true, not-false}
+use Rattle.transmitter.specs.Sending.{idleBits}
+use Rattle.transmitter.specs.Calls.{stateOk}
+use Rattle.transmitter.proofs.Rules.{idle-2, idle-4, idle-0, refusal, sending}
+use Rattle.transmitter.proofs.Transmitter.idle.Statement.{statement}
+use Rattle.transmitter.proofs.Transmitter.idle.Tie as tie
+
+is-ok-requires : tie.Need-is-ok-requires
+is-ok-requires c κs = tt
+
+refused-requires : tie.Need-refused-requires
+refused-requires c κs = tt
+
+-- the state is in its ranges
+in-range : (c : tie.Else1) → stateOk (c .before .before .args .self) ≡ true
+in-range c = sym (c .before .is-ok .ensures) ∙ not-false (c .before .is-ok .result) (c .if1 .left)
+
+returns : tie.Need-returns
+returns c =
+    let a = c .before .before .before .args in
+    let out-of-range = sym (c .before .before .is-ok .ensures) ∙ not-true (c .before .before .is-ok .result) (c .before .if1 .taken) in
+    refusal (c .refused .result) 2 (a .self) (a .out .now) (idle-2 (a .self) (a .out .now) out-of-range) (c .refused .ensures)
+
+refused-requires-2 : tie.Need-refused-requires-2
+refused-requires-2 c κs = tt
+
+returns-2 : tie.Need-returns-2
+returns-2 c =
+    let a = c .before .before .before .before .args in
+    refusal (c .refused2 .result) 4 (a .self) (a .out .now) (idle-4 (a .self) (a .out .now) (in-range (c .before .before)) (c .before .if2 .taken)) (c .refused2 .ensures)
+
+tones-of-requires : tie.Need-tones-of-requires
+tones-of-requires c κs = tt
+
+slice-aggregate-put-bits : tie.Need-slice-aggregate-put-bits
+slice-aggregate-put-bits c = search needs
+
+put-bits-requires : tie.Need-put-bits-requires
+put-bits-requires c κs = omega arith
+
+same-length : tie.Need-same-length
+same-length c = search needs
+
+returns-3 : tie.Need-returns-3
+returns-3 c =
+    let a = c .before .before .before .before .before .before .before .before .args in
+    let room = c .before .before .before .before .before .if2 .left in
+    sending (a .self) idleBits (a .out .now) (c .before .before .before .before .tones-of .result) (c .before .put-bits .result) 96 (c .before .put-bits .last .0)
+    (idle-0 (a .self) (a .out .now) (in-range (c .before .before .before .before .before .before)) room)
+    (c .before .before .before .before .tones-of .ensures) (c .before .put-bits .ensures .0) (c .before .put-bits .ensures .1) refl room
+
+pub idle-spec : {M : Type 1} → statement M
+idle-spec =
+    tie.close
+    (tie.spec
+    is-ok-requires
+    refused-requires
+    returns
+    refused-requires-2
+    returns-2
+    tones-of-requires
+    slice-aggregate-put-bits
+    put-bits-requires
+    same-length
+    returns-3)

@@ -1,0 +1,113 @@
+-- `transmitter::bits::put_bits` meets its contract.
+-- Assumes nothing.
+use mathlib.Core.Path.{_≡_, sym, ap, _∙_}
+use mathlib.Core.List.{[], _∷_}
+use Prim.Native.Nat.{ℕ, _+_, _*_, _%_, _-_, _≤_, _<_}
+use native.Mathlib.Omega.{arith}
+use borrow.Author.Needs.{needs}
+use lib.ListN.{length, drop, getD, drop-of-length-le}
+use lib.Seq.{sets}
+use Rattle.sine.specs.Wave.{wave}
+use Rattle.sine.proofs.Wave.{length-wave}
+use Rattle.tones.specs.Bands.{stepOf}
+use Rattle.transmitter.proofs.Laws.{send-bit, phase-bit}
+use Rattle.transmitter.proofs.Progress.{Progress, progress-start, progress-more, progress-end, bits-left}
+use Rattle.transmitter.proofs.bits.put_bits.Statement.{statement}
+use Rattle.transmitter.proofs.bits.put_bits.Tie as tie
+
+abbrev Inv-loop : tie.InvT-loop
+Inv-loop out₀ at tones phase bits p₀ i₀ out p i = (i ≤ length bits) × Progress tones phase bits out₀ at p (drop i bits) out (at + 32 * i)
+
+abbrev μ-loop : tie.MeasureT-loop
+μ-loop out₀ at tones phase bits p₀ i₀ out p i = length bits - i
+
+loop-holds : tie.Need-loop-holds Inv-loop μ-loop
+loop-holds c =
+    let a = c .before .args in
+    let e : a .at + 32 * 0 ≡ a .at = omega arith in
+    (omega arith, rw e (progress-start (a .tones) (a .phase) (a .bits .now) (a .out .now) (a .at)))
+
+shared-slice-read-step-of : tie.Need-shared-slice-read-step-of Inv-loop μ-loop
+shared-slice-read-step-of c = omega arith
+
+step-of-requires : tie.Need-step-of-requires Inv-loop μ-loop
+step-of-requires c κs = search needs
+
+tone-requires : tie.Need-tone-requires Inv-loop μ-loop
+tone-requires c κs = search needs
+
+-- the 32 places of the present bit
+room : (c : tie.In-loop Inv-loop μ-loop) → c .before .before .before .args .at + 32 * c .before .loop .i + 32 ≤ length (c .before .loop .out)
+room c = let l = c .before .loop in omega (arith, l .inv .1 .filling .long)
+
+mul-put : tie.Need-mul-put Inv-loop μ-loop
+mul-put c = omega arith
+
+add-put : tie.Need-add-put Inv-loop μ-loop
+add-put c = omega arith
+
+slice-aggregate-put : tie.Need-slice-aggregate-put Inv-loop μ-loop
+slice-aggregate-put c = search needs
+
+-- the samples of the present bit
+held : (c : tie.After-tone Inv-loop μ-loop) → c .tone .result ≡ wave 32 (stepOf (c .before .before .before .before .before .before .args .tones) (getD (c .before .before .before .before .before .before .args .bits .now) (c .before .before .before .before .loop .i) 0)) (c .before .before .before .before .loop .p)
+held c = c .tone .ensures ∙ ap (λ (s : ℕ). wave 32 s (c .before .before .before .before .loop .p)) (c .before .step-of .ensures)
+
+put-requires : tie.Need-put-requires Inv-loop μ-loop
+put-requires c κs =
+    let e : length (c .before .before .tone .result) ≡ 32 = ap length (held (c .before .before)) ∙ length-wave 32 _ _ in
+    omega (arith, room (c .before .before .before .before .before))
+
+next-phase-requires : tie.Need-next-phase-requires Inv-loop μ-loop
+next-phase-requires c κs = search needs
+
+add-i : tie.Need-add-i Inv-loop μ-loop
+add-i c = omega arith
+
+loop-less : tie.Need-loop-less Inv-loop μ-loop
+loop-less c = omega arith
+
+loop-again : tie.Need-loop-again Inv-loop μ-loop
+loop-again c =
+    let l = c .before .before .before .before .before .before .before .before .before .loop in
+    let a = c .before .before .before .before .before .before .before .before .before .before .before .args in
+    let bits = a .bits .now in
+    let b = getD bits (l .i) 0 in
+    let lt : l .i < length bits = omega arith in
+    let tone = held (c .before .before .before .before .before) in (
+      omega arith,
+      progress-more (l .inv .1) (b ∷ []) (drop (l .i + 1) bits) (c .next-phase .result) (a .at + 32 * (l .i + 1)) (c .before .before .put .last .0)
+          (bits-left bits (l .i) lt)
+          (c .next-phase .ensures ∙ ap (λ (s : ℕ). (l .p + 32 * s) % 1920) (c .before .before .before .before .before .before .step-of .ensures) ∙ sym (phase-bit (a .tones) (l .p) b))
+          (omega arith)
+          (c .before .before .put .ensures ∙ ap (sets (l .out) (a .at + 32 * l .i)) (tone ∙ sym (send-bit (a .tones) (l .p) b))),
+    )
+
+same-length : tie.Need-same-length Inv-loop μ-loop
+same-length c = c .before .loop .inv .1 .filling .long
+
+returns : tie.Need-returns Inv-loop μ-loop
+returns c =
+    let l = c .before .loop in
+    progress-end (l .inv .1) (drop-of-length-le (c .before .before .before .args .bits .now) {i = l .i} (c .loop-test .left))
+
+pub put-bits-spec : {M : Type 1} → statement M
+put-bits-spec =
+    tie.close
+    (tie.spec
+    Inv-loop
+    μ-loop
+    loop-holds
+    shared-slice-read-step-of
+    step-of-requires
+    tone-requires
+    mul-put
+    add-put
+    slice-aggregate-put
+    put-requires
+    next-phase-requires
+    add-i
+    loop-less
+    loop-again
+    same-length
+    returns)

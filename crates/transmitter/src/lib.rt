@@ -1,0 +1,110 @@
+// The transmitter: opening, idle and characters. Samples go to a caller's buffer; the state goes in and comes back by value.
+ghost use mathlib.Core.Path.{_≡_};
+ghost use Rattle.calls.specs.Outcome.{outcome};
+ghost use Rattle.transmitter.specs.Calls.{openOf, stateOk, idleOf, charactersOf};
+
+mod bits;
+
+use crate::bits::put_bits;
+use crate::bits::put_text;
+use calls::Answer;
+
+// A band, and the phase of the next sample in 1,920ths of a cycle.
+pub struct Transmitter {
+    pub band: u8,
+    pub phase: u16,
+}
+
+// What an opening answers: 0 and the fresh state, or the number of a refusal and the fresh state of band 1.
+pub struct Opened {
+    pub number: u8,
+    pub transmitter: Transmitter,
+}
+
+// What a sending call answers: the next state, and the number with the count of samples.
+pub struct Sent {
+    pub transmitter: Transmitter,
+    pub answer: Answer,
+}
+
+impl Transmitter {
+    pub fn open(band: u8) -> Opened
+        ensures { λ r. ⌜ r ≡ openOf band ⌝ }
+    {
+        if tones::is_band(band) {
+            Opened {
+                number: 0,
+                transmitter: Transmitter { band, phase: 0 },
+            }
+        } else {
+            Opened {
+                number: 1,
+                transmitter: Transmitter { band: 1, phase: 0 },
+            }
+        }
+    }
+
+    // Sends three mark bits: the leader or the trailer of a message.
+    pub fn idle(self, out: &mut [i16]) -> Sent
+        ensures { λ r. ⌜ outcome (r .answer) (r .transmitter) (now (out .exit)) ≡ idleOf self (now (out .entry)) ⌝ }
+    {
+        if !self.is_ok() {
+            return self.refused(2);
+        }
+        if out.len() < 96 {
+            return self.refused(4);
+        }
+        let band = self.band;
+        let tones = tones::tones_of(band);
+        let bits = [1u8; 3];
+        let phase = put_bits(out, 0, tones, self.phase, &bits);
+        Sent {
+            transmitter: Transmitter { band, phase },
+            answer: Answer {
+                number: 0,
+                count: 96,
+            },
+        }
+    }
+
+    // Sends bytes as characters.
+    pub fn characters(self, bytes: &[u8], out: &mut [i16]) -> Sent
+        ensures { λ r. ⌜ outcome (r .answer) (r .transmitter) (now (out .exit))
+            ≡ charactersOf self (now (bytes .entry)) (now (out .entry)) ⌝ }
+    {
+        if !self.is_ok() {
+            return self.refused(2);
+        }
+        if 100 < bytes.len() {
+            return self.refused(3);
+        }
+        let count = 320 * bytes.len();
+        if out.len() < count {
+            return self.refused(4);
+        }
+        let band = self.band;
+        let tones = tones::tones_of(band);
+        let phase = put_text(out, tones, self.phase, bytes);
+        Sent {
+            transmitter: Transmitter { band, phase },
+            answer: Answer { number: 0, count },
+        }
+    }
+
+    // The state is in its ranges.
+    fn is_ok(self) -> bool
+        ensures { λ r. ⌜ r ≡ stateOk self ⌝ }
+    {
+        tones::is_band(self.band) && self.phase < 1920
+    }
+
+    // The state as handed, beside the number of a refusal.
+    fn refused(self, number: u8) -> Sent
+        ensures { λ r. ⌜ r ≡ record { transmitter = self; answer = record { number = number; count = 0 } } ⌝ }
+    {
+        Sent {
+            transmitter: self,
+            answer: Answer { number, count: 0 },
+        }
+    }
+}

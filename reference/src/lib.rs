@@ -1,0 +1,11 @@
+//! A second modem to compare the first with: the sine and the transmitter,
+//! written from document 01 alone and from none of the product's code.
+//! The tests in `tests/` compare it with the static library.
+
+#![deny(unsafe_code)]
+
+pub mod library;
+mod natural;
+pub mod random;
+pub mod sine;
+pub mod transmitter;

@@ -1,0 +1,144 @@
+//! What the test files share: one call made on either side, and compared.
+
+// Each test file uses a part of this.
+#![allow(dead_code)]
+
+use reference::library;
+use reference::sine::Sines;
+use reference::transmitter::{self, Answer, State};
+use std::sync::OnceLock;
+
+pub const BANDS: [u8; 2] = [1, 2];
+pub const IDLE_SAMPLES: usize = 96;
+pub const CHARACTER_SAMPLES: usize = 320;
+
+/// Places before and behind the lent ones, to find a write outside them.
+const GUARD: usize = 8;
+
+pub fn sines() -> &'static Sines {
+    static SINES: OnceLock<Sines> = OnceLock::new();
+    SINES.get_or_init(Sines::new)
+}
+
+#[derive(Clone, Copy, Debug)]
+pub enum Call<'a> {
+    Idle,
+    Characters(&'a [u8]),
+}
+
+impl Call<'_> {
+    /// The places that an accepted call needs and fills.
+    pub fn samples(self) -> usize {
+        match self {
+            Call::Idle => IDLE_SAMPLES,
+            Call::Characters(bytes) => CHARACTER_SAMPLES * bytes.len(),
+        }
+    }
+}
+
+/// An answer with the lent places as they stood on return.
+pub struct Outcome {
+    pub answer: Answer,
+    pub places: Vec<i16>,
+}
+
+impl Outcome {
+    pub fn samples(&self) -> &[i16] {
+        &self.places[..self.answer.count]
+    }
+}
+
+#[derive(Clone, Copy, Debug)]
+pub enum Side {
+    Reference,
+    Library,
+}
+
+pub const SIDES: [Side; 2] = [Side::Reference, Side::Library];
+
+impl Side {
+    pub fn sine(self, phase: usize) -> i16 {
+        match self {
+            Side::Reference => sines().s(phase),
+            Side::Library => library::sine(phase),
+        }
+    }
+
+    pub fn open(self, band: u8) -> (u8, State) {
+        match self {
+            Side::Reference => transmitter::open(band),
+            Side::Library => library::open(band),
+        }
+    }
+
+    /// The fresh state of a band that is 1 or 2.
+    pub fn fresh(self, band: u8) -> State {
+        let (number, state) = self.open(band);
+        assert_eq!((number, state), (0, State { band, phase: 0 }), "{self:?}");
+        state
+    }
+
+    fn answer(self, call: Call, state: State, out: &mut [i16]) -> Answer {
+        match (self, call) {
+            (Side::Reference, Call::Idle) => transmitter::idle(sines(), state, out),
+            (Side::Reference, Call::Characters(bytes)) => {
+                transmitter::characters(sines(), state, bytes, out)
+            }
+            (Side::Library, Call::Idle) => library::idle(state, out),
+            (Side::Library, Call::Characters(bytes)) => library::characters(state, bytes, out),
+        }
+    }
+
+    /// Makes the call with `length` lent places, and checks what holds of
+    /// every call: the places not covered by the count keep their fill, and
+    /// a refusal hands the state back with count 0.
+    pub fn call(self, call: Call, state: State, length: usize) -> Outcome {
+        let mut places: Vec<i16> = (0..length + 2 * GUARD).map(fill).collect();
+        let answer = self.answer(call, state, &mut places[GUARD..GUARD + length]);
+        let what = || format!("{self:?}: {call:?} from {state:?} into {length}");
+        assert!(answer.count <= length, "{}: {answer:?}", what());
+        if answer.number != 0 {
+            assert_eq!((answer.count, answer.state), (0, state), "{}", what());
+        }
+        let sent = GUARD..GUARD + answer.count;
+        let changed = |&place: &usize| !sent.contains(&place) && places[place] != fill(place);
+        if let Some(place) = (0..places.len()).find(changed) {
+            panic!("{}: place {place} - {GUARD} changed", what());
+        }
+        places.truncate(GUARD + length);
+        places.drain(..GUARD);
+        Outcome { answer, places }
+    }
+}
+
+/// Differs from place to place and is never a sample, which is at most 6000
+/// either way.
+fn fill(place: usize) -> i16 {
+    let above = i16::try_from(6_001 + place / 2 % 26_000).expect("at most 32000");
+    if place.is_multiple_of(2) {
+        above
+    } else {
+        -above
+    }
+}
+
+/// The library must answer the call as the reference does, in every place.
+pub fn compare(call: Call, state: State, length: usize) -> Outcome {
+    let expected = Side::Reference.call(call, state, length);
+    let found = Side::Library.call(call, state, length);
+    let what = || format!("{call:?} from {state:?} into {length}");
+    assert_eq!(found.answer, expected.answer, "{}", what());
+    assert_places(&found.places, &expected.places, what);
+    found
+}
+
+/// Equal, or the first place that differs is told instead of all of them.
+pub fn assert_places(found: &[i16], expected: &[i16], what: impl Fn() -> String) {
+    assert_eq!(found.len(), expected.len(), "{}", what());
+    if found != expected {
+        let differs = |&place: &usize| found[place] != expected[place];
+        let place = (0..found.len()).find(differs).expect("they differ");
+        let (found, expected) = (found[place], expected[place]);
+        panic!("{}: place {place} is {found}, not {expected}", what());
+    }
+}
