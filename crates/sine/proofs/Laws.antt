@@ -2,17 +2,14 @@
 -- Assumes nothing.
 use mathlib.Core.Path.{_≡_, refl, _∙_, sym, ap}
 use Prim.Native.Nat.{ℕ, zero, suc, _+_, _-_, _%_, _<_, _≤_}
-use native.Mathlib.Nat.{le-trans, lt-of-le-of-lt}
-use lib.Dec.{lit<}
-use mir.Syntax.{w16}
-use mir.Val.{SFits}
 use native.Mathlib.Decide.{decLt}
 use native.Mathlib.Omega.{arith}
-use lib.IntN.{ℤ, negℤ, natAbs, negℤ-negℤ}
-use lib.Signed.{mag}
 use borrow.Author.Tests.{le-ltb, lt-ltb, le-leb, lt-leb}
-use Rattle.sine.specs.Sine.{S, half, nearest, series, scale}
+use lib.IntN.{negℤ, natAbs, negℤ-negℤ}
+use mir.Syntax.{w16}
+use mir.Val.{SFits}
 use Rattle.integers.proofs.Size.{natAbs-negℤ, mag-natAbs}
+use Rattle.sine.specs.Sine.{S, half, nearest, series, scale}
 use Rattle.sine.proofs.Quarter.{bound}
 
 -- ---- the phase counts modulo 1920
@@ -108,9 +105,5 @@ S-bound p = go (decLt (p % 1920) 960)
     go (yes h) = rw (S-first p h) low
     go (no f) = let h : 960 ≤ p % 1920 = omega arith in rw (S-second p h, natAbs-negℤ (half (p % 960))) low
 
--- the same as the bound that a signed width asks
-pub S-mag : (p : ℕ) → mag (S p) ≤ 6000
-S-mag p = le-trans (mag-natAbs (S p)) (S-bound p)
-
 pub S-fits : (p : ℕ) → SFits w16 (S p)
-S-fits p = record { sfits = lt-of-le-of-lt (S-mag p) (lit< tt) }
+S-fits p = record { sfits = omega (arith, mag-natAbs (S p), S-bound p) }

@@ -49,8 +49,8 @@ record Passed (l u e : ℤ) (d d′ : ℕ) : Type 0 where
   number : pos (natAbs e) ≡ e
   small : natAbs e ≤ 6000
 
-read : (l u e : ℤ) (d d′ : ℕ) → passes (λ i b. b) 0 (tests l u e d d′) ≡ true → Passed l u e d d′
-read l u e d d′ t =
+passed-facts : (l u e : ℤ) (d d′ : ℕ) → passes (λ i b. b) 0 (tests l u e d d′) ≡ true → Passed l u e d d′
+passed-facts l u e d d′ t =
     let at : (k : ℕ) → k < 8 → getD (tests l u e d d′) k true ≡ true = passes-at (λ i b. b) true (tests l u e d d′) t in
     record {
       above = ltZ-yes (true-T (ltZ ((pos 2 *ℤ e -ℤ pos 1) *ℤ pos d) (pos 12000 *ℤ l)) (at 0 (lit< tt)));
@@ -65,7 +65,7 @@ read l u e d d′ t =
 
 passed-at : (p : ℕ) → p ≤ 480 → Passed (lower p) (upper p) (nearest p) (scale unit 9) (scale unit 10)
 passed-at p h =
-    read (lower p) (upper p) (nearest p) (scale unit 9) (scale unit 10) (below-at passed 481 all-passed p (omega arith))
+    passed-facts (lower p) (upper p) (nearest p) (scale unit 9) (scale unit 10) (below-at passed 481 all-passed p (omega arith))
 
 -- ---- what they give
 

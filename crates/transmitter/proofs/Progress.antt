@@ -3,15 +3,17 @@
 -- Assumes nothing.
 use mathlib.Core.Path.{_≡_, refl, _∙_, sym, ap}
 use mathlib.Core.List.{List, [], _∷_, _++_}
-use Prim.Native.Nat.{ℕ, _+_, _*_, _<_, _≤_}
+use Prim.Native.Nat.{ℕ, _+_, _*_, _%_, _<_, _≤_}
 use native.Mathlib.Numerals.{add-one}
 use lib.IntN.{ℤ}
 use lib.ListN.{length, getD, drop, drop-of-length-le}
 use lib.Seq.{sets, drop-cons}
 use Rattle.calls.proofs.Filling.{Filling, filling-start, filling-more, filling-end}
+use Rattle.sine.specs.Wave.{wave}
 use Rattle.tones.specs.declared.Tones.{Tones}
+use Rattle.tones.specs.Bands.{stepOf}
 use Rattle.transmitter.specs.Sending.{send, phaseAfter, bitSteps, sendBits, phaseBits, textBits, charBits}
-use Rattle.transmitter.proofs.Laws.{send-bits-append, phase-bits-append, length-bits}
+use Rattle.transmitter.proofs.Laws.{send-bits-append, phase-bits-append, length-bits, send-bit, phase-bit}
 
 -- the bits `all` are sent from `phase` into the buffer `lent` from the place `from` on; `rest` of them is still to be sent, from
 -- the phase p, into the buffer as it is `now`, from the place `at` on
@@ -35,6 +37,15 @@ module _ {t : Tones} {phase : ℕ} {all : List ℕ} {lent : List ℤ} {from p : 
     where
       place : at′ ≡ at + length (sendBits t p xs)
       place = ea ∙ ap (λ (n : ℕ). at + n) (sym (length-bits t p xs))
+
+  -- one bit is sent: 32 samples of its step from the phase p
+  pub progress-bit : (b : ℕ) (ys : List ℕ) (step next at′ : ℕ) (samples now′ : List ℤ) → rest ≡ (b ∷ []) ++ ys → step ≡ stepOf t b
+      → samples ≡ wave 32 step p → next ≡ (p + 32 * step) % 1920 → at′ ≡ at + 32 → now′ ≡ sets now at samples
+      → Progress t phase all lent from next ys now′ at′
+  progress-bit b ys step next at′ samples now′ split es ew en ea eo =
+      progress-more (b ∷ []) ys next at′ now′ split
+      (en ∙ ap (λ (s : ℕ). (p + 32 * s) % 1920) es ∙ sym (phase-bit t p b)) ea
+      (eo ∙ ap (sets now at) (ew ∙ ap (λ (s : ℕ). wave 32 s p) es ∙ sym (send-bit t p b)))
 
   -- nothing is left
   pub progress-end : rest ≡ [] → (p ≡ phaseBits t phase all) × (now ≡ sets lent from (sendBits t phase all))

@@ -115,11 +115,7 @@ impl Side {
 /// either way.
 fn fill(place: usize) -> i16 {
     let above = i16::try_from(6_001 + place / 2 % 26_000).expect("at most 32000");
-    if place.is_multiple_of(2) {
-        above
-    } else {
-        -above
-    }
+    [above, -above][place % 2]
 }
 
 /// The library must answer the call as the reference does, in every place.

@@ -1,17 +1,12 @@
--- `transmitter::bits::put_bits` meets its contract.
+-- `transmitter::bits::put_bits` meets its contract: each turn sends one bit.
 -- Assumes nothing.
-use mathlib.Core.Path.{_≡_, sym, ap, _∙_}
-use mathlib.Core.List.{[], _∷_}
-use Prim.Native.Nat.{ℕ, _+_, _*_, _%_, _-_, _≤_, _<_}
+use mathlib.Core.Path.{_≡_, ap, _∙_}
+use Prim.Native.Nat.{_+_, _*_, _-_, _≤_}
 use native.Mathlib.Omega.{arith}
 use borrow.Author.Needs.{needs}
 use lib.ListN.{length, drop, getD, drop-of-length-le}
-use lib.Seq.{sets}
-use Rattle.sine.specs.Wave.{wave}
 use Rattle.sine.proofs.Wave.{length-wave}
-use Rattle.tones.specs.Bands.{stepOf}
-use Rattle.transmitter.proofs.Laws.{send-bit, phase-bit}
-use Rattle.transmitter.proofs.Progress.{Progress, progress-start, progress-more, progress-end, bits-left}
+use Rattle.transmitter.proofs.Progress.{Progress, progress-start, progress-bit, progress-end, bits-left}
 use Rattle.transmitter.proofs.bits.put_bits.Statement.{statement}
 use Rattle.transmitter.proofs.bits.put_bits.Tie as tie
 
@@ -49,13 +44,9 @@ add-put c = omega arith
 slice-aggregate-put : tie.Need-slice-aggregate-put Inv-loop μ-loop
 slice-aggregate-put c = search needs
 
--- the samples of the present bit
-held : (c : tie.After-tone Inv-loop μ-loop) → c .tone .result ≡ wave 32 (stepOf (c .before .before .before .before .before .before .args .tones) (getD (c .before .before .before .before .before .before .args .bits .now) (c .before .before .before .before .loop .i) 0)) (c .before .before .before .before .loop .p)
-held c = c .tone .ensures ∙ ap (λ (s : ℕ). wave 32 s (c .before .before .before .before .loop .p)) (c .before .step-of .ensures)
-
 put-requires : tie.Need-put-requires Inv-loop μ-loop
 put-requires c κs =
-    let e : length (c .before .before .tone .result) ≡ 32 = ap length (held (c .before .before)) ∙ length-wave 32 _ _ in
+    let e : length (c .before .before .tone .result) ≡ 32 = ap length (c .before .before .tone .ensures) ∙ length-wave 32 _ _ in
     omega (arith, room (c .before .before .before .before .before))
 
 next-phase-requires : tie.Need-next-phase-requires Inv-loop μ-loop
@@ -72,15 +63,12 @@ loop-again c =
     let l = c .before .before .before .before .before .before .before .before .before .loop in
     let a = c .before .before .before .before .before .before .before .before .before .before .before .args in
     let bits = a .bits .now in
-    let b = getD bits (l .i) 0 in
-    let lt : l .i < length bits = omega arith in
-    let tone = held (c .before .before .before .before .before) in (
+    let step = c .before .before .before .before .before .before .step-of in
+    let tone = c .before .before .before .before .before .tone in
+    let put = c .before .before .put in (
       omega arith,
-      progress-more (l .inv .1) (b ∷ []) (drop (l .i + 1) bits) (c .next-phase .result) (a .at + 32 * (l .i + 1)) (c .before .before .put .last .0)
-          (bits-left bits (l .i) lt)
-          (c .next-phase .ensures ∙ ap (λ (s : ℕ). (l .p + 32 * s) % 1920) (c .before .before .before .before .before .before .step-of .ensures) ∙ sym (phase-bit (a .tones) (l .p) b))
-          (omega arith)
-          (c .before .before .put .ensures ∙ ap (sets (l .out) (a .at + 32 * l .i)) (tone ∙ sym (send-bit (a .tones) (l .p) b))),
+      progress-bit (l .inv .1) (getD bits (l .i) 0) (drop (l .i + 1) bits) (step .result) (c .next-phase .result) (a .at + 32 * (l .i + 1)) (tone .result) (put .last .0)
+          (bits-left bits (l .i) (omega arith)) (step .ensures) (tone .ensures) (c .next-phase .ensures) (omega arith) (put .ensures),
     )
 
 same-length : tie.Need-same-length Inv-loop μ-loop

@@ -1,4 +1,4 @@
--- `transmitter::bits::put_text` meets its contract.
+-- `transmitter::bits::put_text` meets its contract: each turn sends the ten bits of one character.
 -- Assumes nothing.
 use mathlib.Core.Path.{_≡_, sym, ap, _∙_}
 use mathlib.Core.List.{List, _++_}
