@@ -6,7 +6,7 @@ use native.Mathlib.Nat.{mod-add-div'}
 use native.Mathlib.Decide.{decLt}
 use native.Mathlib.Omega.{arith}
 use lib.IntN.{ℤ, negℤ}
-use Rattle.sine.specs.Sine.{S, SineRule}
+use Rattle.sine.specs.Sine.{S, IsSine, SineRule}
 use Rattle.sine.proofs.Quarter.{rule, unique}
 use Rattle.sine.proofs.Laws.{S-nearest, S-mirror, S-opposite, S-period, S-mod}
 
@@ -19,9 +19,13 @@ S-rule =
       period = S-period;
     }
 
+-- for p from 0 to 480 the rule admits S p and nothing else
+pub S-unique : (p : ℕ) (e : ℤ) → p ≤ 480 → IsSine p e → e ≡ S p
+S-unique p e h r = unique p e h r ∙ sym (S-nearest p h)
+
 module _ (f : ℕ → ℤ) (r : SineRule f) where
   first : (p : ℕ) → p ≤ 480 → f p ≡ S p
-  first p h = unique p (f p) h (r .quarter p h) ∙ sym (S-nearest p h)
+  first p h = S-unique p (f p) h (r .quarter p h)
 
   half : (p : ℕ) → p < 960 → f p ≡ S p
   half p h = go (decLt 480 p)

@@ -39,6 +39,11 @@ unfolding phaseAfter total
 phase-total p [] = ap (λ (n : ℕ). n % 1920) (omega arith)
 phase-total p (s ∷ ss) = omega (arith, phase-total ((p + s) % 1920) ss)
 
+pub phase-below : (p : ℕ) (ss : List ℕ) → p < 1920 → phaseAfter p ss < 1920
+unfolding phaseAfter
+phase-below p [] h = h
+phase-below p (s ∷ ss) h = phase-below ((p + s) % 1920) ss (omega arith)
+
 -- each sample is S at the sum of the steps of all samples before it
 pub send-at : (p : ℕ) (ss : List ℕ) (i : ℕ) → i < length ss → getD (send p ss) i (pos 0) ≡ S ((p + total (take i ss)) % 1920)
 unfolding send total

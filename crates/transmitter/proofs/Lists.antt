@@ -1,9 +1,11 @@
 -- Demand 2 over lists of calls, from the law of lists of calls and the laws of sending.
 -- Assumes nothing.
 use mathlib.Core.Path.{_≡_, refl, _∙_, ap}
-use mathlib.Core.Bool.{not}
+use mathlib.Core.Bool.{not, true}
 use mathlib.Core.List.{List}
-use Prim.Native.Nat.{ℕ, suc, _*_, _%_}
+use mathlib.Mathlib.Data.Bool.Basic.{and-elim-left, and-elim-right, and-intro}
+use Prim.Native.Nat.{ℕ, suc, _*_, _%_, _<_}
+use borrow.Author.Tests.{lt-ltb, ltb-true}
 use lib.Dec.{ltb}
 use lib.IntN.{ℤ, pos}
 use lib.ListN.{length, getD}
@@ -11,12 +13,12 @@ use Rattle.integers.proofs.Tests.{cond-case}
 use Rattle.calls.specs.Outcome.{Outcome, refused}
 use Rattle.calls.specs.Lists.{stateAfter}
 use Rattle.calls.proofs.Lists.{Run, Runs, refused-runs, accepted-runs, joined-state, joined-front}
-use Rattle.tones.specs.Bands.{tonesOf}
+use Rattle.tones.specs.Bands.{bandOk, tonesOf}
 use Rattle.transmitter.specs.declared.Transmitter.{Transmitter}
 use Rattle.transmitter.specs.Sending.{send, phaseAfter, bitSteps}
 use Rattle.transmitter.specs.Calls.{stateOk, samplesOf, behind, sent, idleOf, charactersOf}
 use Rattle.transmitter.specs.Lists.{Call, idle, characters, callOf, bitsOf, samplesWritten, stepsSent, Continuous}
-use Rattle.transmitter.proofs.Laws.{length-send, send-at, phase-total, send-bits-append, phase-bits-append}
+use Rattle.transmitter.proofs.Laws.{length-send, send-at, phase-total, phase-below, send-bits-append, phase-bits-append}
 
 -- sending bits from a state is a run over them
 sending-run : Run behind samplesOf
@@ -54,6 +56,12 @@ call-runs s (characters bytes lent) =
     (λ e. cond-case (CallRuns c s) (ltb (length lent) (320 * length bytes)) _ _ (λ e. refuses c s lent 3)
     (λ e. sends c s lent)))
 
+in-range : (s : Transmitter) (steps : List ℕ) → stateOk s ≡ true → stateOk (record { band = s .band; phase = phaseAfter (s .phase) steps }) ≡ true
+unfolding stateOk
+in-range s steps h =
+    let small : s .phase < 1920 = ltb-true (s .phase) 1920 (and-elim-right (bandOk (s .band)) (ltb (s .phase) 1920) h) in
+    and-intro (and-elim-left (bandOk (s .band)) (ltb (s .phase) 1920) h) (lt-ltb (phaseAfter (s .phase) steps) 1920 (phase-below (s .phase) steps small))
+
 pub continuous : (s : Transmitter) (calls : List Call) → Continuous s calls
 continuous s calls =
     record {
@@ -61,6 +69,7 @@ continuous s calls =
       sample = λ i h. ap (λ (l : List ℤ). getD l i (pos 0)) wrote ∙ send-at (s .phase) (stepsSent s calls) i h;
       phase = ap (λ (t : Transmitter). t .phase % 1920) state ∙ phase-total (s .phase) (stepsSent s calls);
       band = ap (λ (t : Transmitter). t .band) state;
+      range = λ h. rw state (in-range s (stepsSent s calls) h);
     }
   where
     wrote : samplesWritten s calls ≡ send (s .phase) (stepsSent s calls)

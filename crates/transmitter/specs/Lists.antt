@@ -1,6 +1,7 @@
 -- Lists of sending calls, and demand 2 over them: each sample is S at the sum of all steps so far.
 -- Assumes nothing.
 use mathlib.Core.Path.{_≡_}
+use mathlib.Core.Bool.{true}
 use mathlib.Core.List.{List}
 use Prim.Native.Nat.{ℕ, _+_, _%_, _<_}
 use lib.IntN.{ℤ, pos}
@@ -12,7 +13,7 @@ use Rattle.sine.specs.Sine.{S}
 use Rattle.tones.specs.Bands.{tonesOf}
 use Rattle.transmitter.specs.declared.Transmitter.{Transmitter}
 use Rattle.transmitter.specs.Sending.{bitSteps, idleBits, textBits}
-use Rattle.transmitter.specs.Calls.{idleOf, charactersOf}
+use Rattle.transmitter.specs.Calls.{stateOk, idleOf, charactersOf}
 
 -- a call with what it is handed: the bytes, and the lent output as it stands on entry
 pub data Call : Type 0 where
@@ -45,3 +46,5 @@ pub record Continuous (s : Transmitter) (calls : List Call) : Type 0 where
   -- the phase that is left is the sum of them all
   pub phase : stateAfter callOf s calls .phase % 1920 ≡ (s .phase + total (stepsSent s calls)) % 1920
   pub band : stateAfter callOf s calls .band ≡ s .band
+  -- a state in its ranges stays in them
+  pub range : stateOk s ≡ true → stateOk (stateAfter callOf s calls) ≡ true
