@@ -10,22 +10,22 @@ fn main() {
     // One byte more than a call takes, so that the call itself refuses a message that is too long.
     let mut bytes = [0u8; 101];
     let n = io::read_full(STDIN_FILENO, &mut bytes);
-    let mut leader = [0i16; 96];
-    let mut text = [0i16; 32000];
-    let mut trailer = [0i16; 96];
     let opened = Transmitter::open(1);
     let fresh = opened.transmitter;
+    let mut leader = [0i16; 96];
     let first = fresh.idle(&mut leader);
-    let second = first.transmitter;
-    let characters = second.characters(&bytes[..n], &mut text);
-    let third = characters.transmitter;
-    let answer = characters.answer;
-    third.idle(&mut trailer);
+    let begun = first.transmitter;
+    let mut text = [0i16; 32000];
+    let second = begun.characters(&bytes[..n], &mut text);
+    let answer = second.answer;
     if answer.number != 0 {
         io::write_all(STDOUT_FILENO, b"refused\n");
         print_number(answer.number as u64);
         return;
     }
+    let sent = second.transmitter;
+    let mut trailer = [0i16; 96];
+    sent.idle(&mut trailer);
     print_front(&leader, 96);
     print_front(&text, answer.count);
     print_front(&trailer, 96);

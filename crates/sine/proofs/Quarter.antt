@@ -96,12 +96,14 @@ module _ (l u d d′ n : ℕ) (over : 12000 * l ≤ (2 * n + 1) * d) (under : (2
   at-most : (m : ℕ) → T (ltZ ((pos 2 *ℤ pos m -ℤ pos 1) *ℤ pos d) (pos 12000 *ℤ pos l)) → m ≤ n
   at-most zero t = omega arith
   at-most (suc k) t =
-      let b : 2 * suc k - 1 < 2 * n + 1 = lt-of-mul-lt-mul-right d (lt-of-lt-of-le (ltb→lt ((2 * suc k - 1) * d) (12000 * l) (rw (odd-below (suc k) (omega arith)) at t)) over) in
+      let a : (2 * suc k - 1) * d < 12000 * l = ltb→lt ((2 * suc k - 1) * d) (12000 * l) (rw (odd-below (suc k) (omega arith)) at t) in
+      let b : 2 * suc k - 1 < 2 * n + 1 = lt-of-mul-lt-mul-right d (lt-of-lt-of-le a over) in
       omega arith
 
   at-least : (m : ℕ) → T (ltZ (pos 12000 *ℤ pos u) ((pos 2 *ℤ pos m +ℤ pos 1) *ℤ pos d′)) → n ≤ m
   at-least m t =
-      let b : 2 * n - 1 < 2 * m + 1 = lt-of-mul-lt-mul-right d′ (lt-of-le-of-lt under (ltb→lt (12000 * u) ((2 * m + 1) * d′) t)) in
+      let a : 12000 * u < (2 * m + 1) * d′ = ltb→lt (12000 * u) ((2 * m + 1) * d′) t in
+      let b : 2 * n - 1 < 2 * m + 1 = lt-of-mul-lt-mul-right d′ (lt-of-le-of-lt under a) in
       omega arith
 
   only : (L U e : ℤ) → pos l ≡ L → pos u ≡ U

@@ -56,11 +56,14 @@ call-runs s (characters bytes lent) =
     (λ e. cond-case (CallRuns c s) (ltb (length lent) (320 * length bytes)) _ _ (λ e. refuses c s lent 3)
     (λ e. sends c s lent)))
 
-in-range : (s : Transmitter) (steps : List ℕ) → stateOk s ≡ true → stateOk (record { band = s .band; phase = phaseAfter (s .phase) steps }) ≡ true
+-- steps keep a state in its ranges
+in-range : (s : Transmitter) (steps : List ℕ) → stateOk s ≡ true
+    → stateOk (record { band = s .band; phase = phaseAfter (s .phase) steps }) ≡ true
 unfolding stateOk
 in-range s steps h =
-    let small : s .phase < 1920 = ltb-true (s .phase) 1920 (and-elim-right (bandOk (s .band)) (ltb (s .phase) 1920) h) in
-    and-intro (and-elim-left (bandOk (s .band)) (ltb (s .phase) 1920) h) (lt-ltb (phaseAfter (s .phase) steps) 1920 (phase-below (s .phase) steps small))
+    let band = and-elim-left (bandOk (s .band)) (ltb (s .phase) 1920) h in
+    let phase = ltb-true (s .phase) 1920 (and-elim-right (bandOk (s .band)) (ltb (s .phase) 1920) h) in
+    and-intro band (lt-ltb (phaseAfter (s .phase) steps) 1920 (phase-below (s .phase) steps phase))
 
 pub continuous : (s : Transmitter) (calls : List Call) → Continuous s calls
 continuous s calls =

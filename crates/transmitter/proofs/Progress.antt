@@ -24,7 +24,8 @@ pub record Progress (t : Tones) (phase : ℕ) (all : List ℕ) (lent : List ℤ)
 pub progress-start : (t : Tones) (phase : ℕ) (all : List ℕ) (lent : List ℤ) (from : ℕ) → Progress t phase all lent from phase all lent from
 progress-start t phase all lent from = record { phases = refl; filling = filling-start lent from (sendBits t phase all) }
 
-module _ {t : Tones} {phase : ℕ} {all : List ℕ} {lent : List ℤ} {from p : ℕ} {rest : List ℕ} {now : List ℤ} {at : ℕ} (h : Progress t phase all lent from p rest now at) where
+module _ {t : Tones} {phase : ℕ} {all : List ℕ} {lent : List ℤ} {from p : ℕ} {rest : List ℕ} {now : List ℤ} {at : ℕ}
+    (h : Progress t phase all lent from p rest now at) where
   -- the bits xs are sent
   pub progress-more : (xs ys : List ℕ) (p′ at′ : ℕ) (now′ : List ℤ) → rest ≡ xs ++ ys → p′ ≡ phaseBits t p xs → at′ ≡ at + 32 * length xs
       → now′ ≡ sets now at (sendBits t p xs) → Progress t phase all lent from p′ ys now′ at′

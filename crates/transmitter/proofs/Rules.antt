@@ -40,11 +40,13 @@ module _ (s : Transmitter) (bytes : List ℕ) (lent : List ℤ) where
   unfolding charactersOf
   characters-3 h l = simp (h, lt-ltb 100 (length bytes) l)
 
-  pub characters-4 : stateOk s ≡ true → length bytes ≤ 100 → length lent < 320 * length bytes → charactersOf s bytes lent ≡ refused 4 s lent
+  pub characters-4 : stateOk s ≡ true → length bytes ≤ 100 → length lent < 320 * length bytes
+      → charactersOf s bytes lent ≡ refused 4 s lent
   unfolding charactersOf
   characters-4 h l m = simp (h, le-ltb 100 (length bytes) l, lt-ltb (length lent) (320 * length bytes) m)
 
-  pub characters-0 : stateOk s ≡ true → length bytes ≤ 100 → 320 * length bytes ≤ length lent → charactersOf s bytes lent ≡ sent s (textBits bytes) lent
+  pub characters-0 : stateOk s ≡ true → length bytes ≤ 100 → 320 * length bytes ≤ length lent
+      → charactersOf s bytes lent ≡ sent s (textBits bytes) lent
   unfolding charactersOf
   characters-0 h l m = simp (h, le-ltb 100 (length bytes) l, le-ltb (length lent) (320 * length bytes) m)
 

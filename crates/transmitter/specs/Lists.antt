@@ -42,7 +42,8 @@ pub record Continuous (s : Transmitter) (calls : List Call) : Type 0 where
   -- every step has its sample
   pub long : length (samplesWritten s calls) ≡ length (stepsSent s calls)
   -- sample i is S at the first phase and all steps before it, modulo 1,920
-  pub sample : (i : ℕ) → i < length (stepsSent s calls) → getD (samplesWritten s calls) i (pos 0) ≡ S ((s .phase + total (take i (stepsSent s calls))) % 1920)
+  pub sample : (i : ℕ) → i < length (stepsSent s calls)
+      → getD (samplesWritten s calls) i (pos 0) ≡ S ((s .phase + total (take i (stepsSent s calls))) % 1920)
   -- the phase that is left is the sum of them all
   pub phase : stateAfter callOf s calls .phase % 1920 ≡ (s .phase + total (stepsSent s calls)) % 1920
   pub band : stateAfter callOf s calls .band ≡ s .band

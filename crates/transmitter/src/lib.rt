@@ -1,4 +1,5 @@
-// The transmitter: opening, idle and characters. Samples go to a caller's buffer; the state goes in and comes back by value.
+// The transmitter: opening, idle and characters. Samples go to the front of a caller's buffer, document 01's lent output; the
+// state goes in and comes back by value.
 ghost use mathlib.Core.Path.{_≡_};
 ghost use Rattle.calls.specs.Outcome.{outcome};
 ghost use Rattle.transmitter.specs.Calls.{openOf, stateOk, idleOf, charactersOf};
@@ -28,6 +29,7 @@ pub struct Sent {
 }
 
 impl Transmitter {
+    // The fresh state of a band: document 01's opening.
     pub fn open(band: u8) -> Opened
         ensures { λ r. ⌜ r ≡ openOf band ⌝ }
     {

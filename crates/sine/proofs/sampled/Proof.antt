@@ -52,21 +52,19 @@ array-set-from-samples : tie.Need-array-set-from-samples Inv-loop μ-loop
 array-set-from-samples c = omega (arith, c .before .before .loop .inv .1 .long)
 
 add-j : tie.Need-add-j Inv-loop μ-loop
-add-j c = search needs
+add-j c = omega arith
 
 loop-less : tie.Need-loop-less Inv-loop μ-loop
-loop-less c = search needs
+loop-less c = omega arith
 
 loop-again : tie.Need-loop-again Inv-loop μ-loop
 loop-again c =
     let l = c .before .before .loop in
     let a = c .before .before .before .args in
-    let samples = wave 32 (a .step) (a .phase) in
-    let inside : l .j < 32 = omega arith in (
+    let read = entry (a .cycle .now) (a .phase + l .j * a .step) (c .before .before .before .pre .0) in
+    let sample = wave-at 32 (a .step) (a .phase) (l .j) (omega arith) in (
       omega arith,
-      filling-next samples (l .j) (pos 0) _ (omega (arith, length-wave 32 (a .step) (a .phase)))
-          (entry (a .cycle .now) (a .phase + l .j * a .step) (c .before .before .before .pre .0) ∙ sym (wave-at 32 (a .step) (a .phase) (l .j) inside))
-          (l .inv .1),
+      filling-next (wave 32 (a .step) (a .phase)) (l .j) (pos 0) _ (omega (arith, length-wave 32 (a .step) (a .phase))) (read ∙ sym sample) (l .inv .1),
     )
 
 returns : tie.Need-returns Inv-loop μ-loop

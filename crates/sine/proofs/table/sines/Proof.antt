@@ -23,9 +23,8 @@ right k x = eqZ x (S k)
 carried : (xs : List ℤ) → (eqb (length xs) 1920 && passes right 0 xs) ≡ true → HoldsSine xs
 carried xs t =
     let n : length xs ≡ 1920 = eqb-true (length xs) 1920 (and-elim-left (eqb (length xs) 1920) (passes right 0 xs) t) in
-    record {
-      at = λ k h. eqZ-true (getD xs k (pos 0)) (S k) (passes-at right (pos 0) xs (and-elim-right (eqb (length xs) 1920) (passes right 0 xs) t) k (omega arith));
-    }
+    let all : passes right 0 xs ≡ true = and-elim-right (eqb (length xs) 1920) (passes right 0 xs) t in
+    record { at = λ k h. eqZ-true (getD xs k (pos 0)) (S k) (passes-at right (pos 0) xs all k (omega arith)) }
 
 returns : tie.Need-returns
 unfolding S half nearest series scale

@@ -40,7 +40,7 @@ returns-2 c =
     (characters-3 (a .self) (a .bytes .now) (a .out .now) (in-range (c .before .before)) (c .before .if2 .taken)) (c .refused2 .ensures)
 
 mul-count : tie.Need-mul-count
-mul-count c = search needs
+mul-count c = omega arith
 
 refused-requires-3 : tie.Need-refused-requires-3
 refused-requires-3 c κs = tt
@@ -48,14 +48,15 @@ refused-requires-3 c κs = tt
 returns-3 : tie.Need-returns-3
 returns-3 c =
     let a = c .before .before .before .before .before .before .args in
+    let few = c .before .before .if2 .left in
     refusal (c .refused3 .result) 4 (a .self) (a .out .now)
-    (characters-4 (a .self) (a .bytes .now) (a .out .now) (in-range (c .before .before .before)) (c .before .before .if2 .left) (c .before .if3 .taken)) (c .refused3 .ensures)
+    (characters-4 (a .self) (a .bytes .now) (a .out .now) (in-range (c .before .before .before)) few (c .before .if3 .taken)) (c .refused3 .ensures)
 
 tones-of-requires : tie.Need-tones-of-requires
 tones-of-requires c κs = tt
 
 put-text-requires : tie.Need-put-text-requires
-put-text-requires c κs = search needs
+put-text-requires c κs = omega arith
 
 same-length : tie.Need-same-length
 same-length c = search needs
@@ -63,11 +64,14 @@ same-length c = search needs
 returns-4 : tie.Need-returns-4
 returns-4 c =
     let a = c .before .before .before .before .before .before .before .before .before .args in
+    let bytes = a .bytes .now in
     let few = c .before .before .before .before .before .if2 .left in
     let room = c .before .before .before .before .if3 .left in
-    sending (a .self) (textBits (a .bytes .now)) (a .out .now) (c .before .before .before .tones-of .result) (c .before .put-text .result) (320 * length (a .bytes .now)) (c .before .put-text .last .0)
-    (characters-0 (a .self) (a .bytes .now) (a .out .now) (in-range (c .before .before .before .before .before .before)) few room)
-    (c .before .before .before .tones-of .ensures) (c .before .put-text .ensures .0) (c .before .put-text .ensures .1) (omega (arith, length-text (a .bytes .now))) room
+    let tones = c .before .before .before .tones-of in
+    let put = c .before .put-text in
+    sending (a .self) (textBits bytes) (a .out .now) (tones .result) (put .result) (320 * length bytes) (put .last .0)
+    (characters-0 (a .self) bytes (a .out .now) (in-range (c .before .before .before .before .before .before)) few room)
+    (tones .ensures) (put .ensures .0) (put .ensures .1) (omega (arith, length-text bytes)) room
 
 pub characters-spec : {M : Type 1} → statement M
 characters-spec =

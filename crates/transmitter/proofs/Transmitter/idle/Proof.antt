@@ -33,7 +33,8 @@ refused-requires-2 c κs = tt
 returns-2 : tie.Need-returns-2
 returns-2 c =
     let a = c .before .before .before .before .args in
-    refusal (c .refused2 .result) 4 (a .self) (a .out .now) (idle-4 (a .self) (a .out .now) (in-range (c .before .before)) (c .before .if2 .taken)) (c .refused2 .ensures)
+    refusal (c .refused2 .result) 4 (a .self) (a .out .now)
+    (idle-4 (a .self) (a .out .now) (in-range (c .before .before)) (c .before .if2 .taken)) (c .refused2 .ensures)
 
 tones-of-requires : tie.Need-tones-of-requires
 tones-of-requires c κs = tt
@@ -51,9 +52,10 @@ returns-3 : tie.Need-returns-3
 returns-3 c =
     let a = c .before .before .before .before .before .before .before .before .args in
     let room = c .before .before .before .before .before .if2 .left in
-    sending (a .self) idleBits (a .out .now) (c .before .before .before .before .tones-of .result) (c .before .put-bits .result) 96 (c .before .put-bits .last .0)
-    (idle-0 (a .self) (a .out .now) (in-range (c .before .before .before .before .before .before)) room)
-    (c .before .before .before .before .tones-of .ensures) (c .before .put-bits .ensures .0) (c .before .put-bits .ensures .1) refl room
+    let tones = c .before .before .before .before .tones-of in
+    let put = c .before .put-bits in
+    sending (a .self) idleBits (a .out .now) (tones .result) (put .result) 96 (put .last .0)
+    (idle-0 (a .self) (a .out .now) (in-range (c .before .before .before .before .before .before)) room) (tones .ensures) (put .ensures .0) (put .ensures .1) refl room
 
 pub idle-spec : {M : Type 1} → statement M
 idle-spec =

@@ -1,13 +1,12 @@
 -- `transmitter::Transmitter::open` meets its contract.
 -- Assumes nothing.
 use mathlib.Core.Path.{sym, _∙_}
-use borrow.Author.Needs.{needs}
 use Rattle.transmitter.specs.Calls.{openOf}
 use Rattle.transmitter.proofs.Transmitter.open.Statement.{statement}
 use Rattle.transmitter.proofs.Transmitter.open.Tie as tie
 
 is-band-requires : tie.Need-is-band-requires
-is-band-requires c κs = search needs
+is-band-requires c κs = tt
 
 returns : tie.Need-returns
 unfolding openOf

@@ -26,10 +26,10 @@ shared-slice-read-step-of : tie.Need-shared-slice-read-step-of Inv-loop μ-loop
 shared-slice-read-step-of c = omega arith
 
 step-of-requires : tie.Need-step-of-requires Inv-loop μ-loop
-step-of-requires c κs = search needs
+step-of-requires c κs = tt
 
 tone-requires : tie.Need-tone-requires Inv-loop μ-loop
-tone-requires c κs = search needs
+tone-requires c κs = tt
 
 -- the 32 places of the present bit
 room : (c : tie.In-loop Inv-loop μ-loop) → c .before .before .before .args .at + 32 * c .before .loop .i + 32 ≤ length (c .before .loop .out)
@@ -50,7 +50,7 @@ put-requires c κs =
     omega (arith, room (c .before .before .before .before .before))
 
 next-phase-requires : tie.Need-next-phase-requires Inv-loop μ-loop
-next-phase-requires c κs = search needs
+next-phase-requires c κs = tt
 
 add-i : tie.Need-add-i Inv-loop μ-loop
 add-i c = omega arith
@@ -67,8 +67,9 @@ loop-again c =
     let tone = c .before .before .before .before .before .tone in
     let put = c .before .before .put in (
       omega arith,
-      progress-bit (l .inv .1) (getD bits (l .i) 0) (drop (l .i + 1) bits) (step .result) (c .next-phase .result) (a .at + 32 * (l .i + 1)) (tone .result) (put .last .0)
-          (bits-left bits (l .i) (omega arith)) (step .ensures) (tone .ensures) (c .next-phase .ensures) (omega arith) (put .ensures),
+      progress-bit (l .inv .1) (getD bits (l .i) 0) (drop (l .i + 1) bits) (step .result) (c .next-phase .result) (a .at + 32 * (l .i + 1))
+          (tone .result) (put .last .0) (bits-left bits (l .i) (omega arith)) (step .ensures) (tone .ensures) (c .next-phase .ensures) (omega arith)
+          (put .ensures),
     )
 
 same-length : tie.Need-same-length Inv-loop μ-loop

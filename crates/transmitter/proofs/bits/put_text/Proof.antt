@@ -28,7 +28,7 @@ shared-slice-read-char-bits : tie.Need-shared-slice-read-char-bits Inv-loop μ-l
 shared-slice-read-char-bits c = omega arith
 
 char-bits-requires : tie.Need-char-bits-requires Inv-loop μ-loop
-char-bits-requires c κs = search needs
+char-bits-requires c κs = tt
 
 mul-put-bits : tie.Need-mul-put-bits Inv-loop μ-loop
 mul-put-bits c = omega arith
