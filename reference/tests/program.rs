@@ -23,6 +23,7 @@ fn printed(message: &[u8]) -> String {
     let _ = input.write_all(message);
     drop(input);
     let output = program.wait_with_output().expect("the program ends");
+    assert!(output.status.success(), "{:?}", output.status);
     String::from_utf8(output.stdout).expect("digits, signs and line feeds")
 }
 

@@ -12,6 +12,20 @@ fn compare(phases: impl Iterator<Item = usize>) {
     }
 }
 
+/// The one link that nothing proves: the rule's number is the whole number
+/// nearest to the sine. No value lies closer than 0.0002 to a tie, so floating
+/// point tells.
+#[test]
+fn nearest_to_the_sine() {
+    for phase in 0..1_920 {
+        let exact = 6_000.0 * (phase as f64 * std::f64::consts::PI / 960.0).sin();
+        assert!((exact.fract().abs() - 0.5).abs() > 0.0002, "tie at {phase}");
+        let nearest = exact.round() as i16;
+        assert_eq!(library::sine(phase), nearest, "library, S({phase})");
+        assert_eq!(sines().s(phase), nearest, "reference, S({phase})");
+    }
+}
+
 #[test]
 fn one_cycle() {
     compare(0..1_920);

@@ -24,7 +24,7 @@ module _ {A : Type 0} where
         record { long = length-sets now at xs ∙ f .long; whole = sym (sets-append now at xs rest) ∙ f .whole }
 
     -- one place is stored
-    pub filling-one : (x : A) (rest : List A) → Filling lent from all now at (x ∷ rest) → Filling lent from all (set now at x) (at + 1) rest
+    filling-one : (x : A) (rest : List A) → Filling lent from all now at (x ∷ rest) → Filling lent from all (set now at x) (at + 1) rest
     filling-one x rest f = record { long = length-set now at x ∙ f .long; whole = rw add-one (f .whole) }
 
     -- one place is stored, from a list that is read place by place

@@ -12,31 +12,31 @@ use Rattle.calls.specs.Outcome.{Outcome, refused, accepted, isAccepted, 
 use Rattle.calls.specs.Lists.{joined, stateAfter}
 
 -- A run over a list of inputs: the state after it and what it gives.
-pub record Run {S I A : Type 0} (after : S → List I → S) (gives : S → List I → List A) : Type 0 where
+pub record RunLaws {S I A : Type 0} (after : S → List I → S) (gives : S → List I → List A) : Type 0 where
   pub after-none : (s : S) → after s [] ≡ s
   pub gives-none : (s : S) → gives s [] ≡ []
   pub after-append : (s : S) (xs ys : List I) → after s (xs ++ ys) ≡ after (after s xs) ys
   pub gives-append : (s : S) (xs ys : List I) → gives s (xs ++ ys) ≡ gives s xs ++ gives (after s xs) ys
 
-module _ {S I A : Type 0} (after : S → List I → S) (gives : S → List I → List A) (run : Run after gives) where
+module _ {S I A : Type 0} (after : S → List I → S) (gives : S → List I → List A) (run : RunLaws after gives) where
   -- the inputs that a call takes: none if it is refused
   abbrev taken : Outcome S A → List I → List I
   taken o inputs = cond (isAccepted o) inputs []
 
   -- A call that runs over its inputs if it is accepted, and does nothing if it is refused.
-  pub record Runs (inputs : List I) (s : S) (o : Outcome S A) : Type 0 where
+  pub record IsRun (inputs : List I) (s : S) (o : Outcome S A) : Type 0 where
     pub state : o .state ≡ after s (taken o inputs)
     pub wrote : cond (isAccepted o) (front o) [] ≡ gives s (taken o inputs)
 
-  pub refused-runs : (n : ℕ) (s : S) (inputs : List I) (lent : List A) → Runs inputs s (refused (suc n) s lent)
-  refused-runs n s inputs lent =
+  pub refused-run : (n : ℕ) (s : S) (inputs : List I) (lent : List A) → IsRun inputs s (refused (suc n) s lent)
+  refused-run n s inputs lent =
       record { state = rw (eqb·suc-zero n) (sym (run .after-none s)); wrote = rw (eqb·suc-zero n) (sym (run .gives-none s)) }
 
-  pub accepted-runs : (s : S) (inputs : List I) (lent : List A) → Runs inputs s (accepted (after s inputs) (gives s inputs) lent)
-  accepted-runs s inputs lent =
+  pub accepted-run : (s : S) (inputs : List I) (lent : List A) → IsRun inputs s (accepted (after s inputs) (gives s inputs) lent)
+  accepted-run s inputs lent =
       record { state = refl; wrote = take-append-seam (gives s inputs) (drop (length (gives s inputs)) lent) }
 
-  module _ {C : Type 0} (rule : S → C → Outcome S A) (inputs : C → List I) (law : (s : S) (c : C) → Runs (inputs c) s (rule s c)) where
+  module _ {C : Type 0} (rule : S → C → Outcome S A) (inputs : C → List I) (law : (s : S) (c : C) → IsRun (inputs c) s (rule s c)) where
     -- the inputs of the accepted calls
     abbrev pub inputsIn : S → List C → List I
     inputsIn = joined rule (λ o c. inputs c)

@@ -28,6 +28,7 @@ module _ {S A : Type 0} where
   abbrev pub outcome : Answer → S → List A → Outcome S A
   outcome a s lent = record { number = a .number; count = a .count; state = s; lent = lent }
 
+  -- accepted is what has the number 0
   abbrev pub isAccepted : Outcome S A → Bool
   isAccepted o = eqb (o .number) 0
 

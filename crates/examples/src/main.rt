@@ -1,4 +1,5 @@
-// Makes the calls of document 01's bench examples that are run and not proved, and prints the number and the count of each.
+// Makes the transmitter's calls among document 01's unstarred bench examples, and idle at its own limit, and prints the number
+// and the count of each.
 use calls::Answer;
 use libc::STDOUT_FILENO;
 use transmitter::Transmitter;

@@ -1,15 +1,18 @@
--- Answers and states from the numbers of their fields.
+-- Answers and states from the numbers of their fields, so that an exported contract cites the same definitions.
 -- Assumes nothing.
 use Prim.Native.Nat.{ℕ}
 use Rattle.calls.specs.declared.Answer.{Answer}
 use Rattle.transmitter.specs.declared.Transmitter.{Transmitter}
 use Rattle.transmitter.specs.declared.Opened.{Opened}
 
+-- what a call answers
 abbrev pub answer : ℕ → ℕ → Answer
 answer number count = record { number = number; count = count }
 
+-- a transmitter's state
 abbrev pub transmitter : ℕ → ℕ → Transmitter
 transmitter band phase = record { band = band; phase = phase }
 
+-- what an opening answers
 abbrev pub opened : ℕ → ℕ → ℕ → Opened
 opened number band phase = record { number = number; transmitter = transmitter band phase }

@@ -1,4 +1,4 @@
--- Lists that are equal up to a bound at each place.
+-- Lists that are equal up to a bound at each place, as a recording is to the samples sent: document 01, "Whole recordings".
 -- Assumes nothing.
 use mathlib.Core.List.{List, [], _∷_}
 use Prim.Native.Nat.{ℕ, _≤_}

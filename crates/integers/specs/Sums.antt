@@ -1,4 +1,4 @@
--- Sums over lists.
+-- Sums over lists. The definitions are ours: `total` serves document 01's sum of steps, `dot` the signed sums of its reader.
 -- Assumes nothing.
 use mathlib.Core.List.{List, [], _∷_}
 use Prim.Native.Nat.{ℕ, _+_}
@@ -14,7 +14,7 @@ unfoldable pub size : List ℤ → ℕ
 size [] = 0
 size (x ∷ xs) = natAbs x + size xs
 
--- the sum of the products, place by place
+-- the sum of the products, place by place up to the end of the shorter list
 unfoldable pub dot : List ℤ → List ℤ → ℤ
 dot [] ws = pos 0
 dot (x ∷ xs) [] = pos 0

@@ -26,6 +26,7 @@ fn main() {
     let sent = second.transmitter;
     let mut trailer = [0i16; 96];
     sent.idle(&mut trailer);
+    // Neither idle can be refused: the state is in its ranges, and there are 96 places.
     print_front(&leader, 96);
     print_front(&text, answer.count);
     print_front(&trailer, 96);

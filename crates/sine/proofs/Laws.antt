@@ -1,4 +1,5 @@
--- The laws of S that its users cite, so that none of them opens its definition.
+-- The laws of S: the period, the opposite half, the mirror and the bound, which its users cite so that none of them opens its
+-- definition.
 -- Assumes nothing.
 use mathlib.Core.Path.{_≡_, refl, _∙_, sym, ap}
 use Prim.Native.Nat.{ℕ, zero, suc, _+_, _-_, _%_, _<_, _≤_}
@@ -71,9 +72,9 @@ S-960 : S (960 - 0) ≡ S 0
 unfolding S half nearest series scale
 S-960 = refl
 
-pub S-mirror : (p : ℕ) → p ≤ 480 → S (960 - p) ≡ S p
-S-mirror zero h = S-960
-S-mirror (suc k) h = go (decLt k 479)
+mirror-quarter : (p : ℕ) → p ≤ 480 → S (960 - p) ≡ S p
+mirror-quarter zero h = S-960
+mirror-quarter (suc k) h = go (decLt k 479)
   where
     e : (960 - suc k) % 960 ≡ 960 - suc k
     e = omega arith
@@ -82,9 +83,28 @@ S-mirror (suc k) h = go (decLt k 479)
     go (yes l) =
         let f : 960 - (960 - suc k) ≡ suc k = omega arith in
         S-first (960 - suc k) (omega arith) ∙ ap half e ∙ half-down (960 - suc k) (omega arith) ∙ ap nearest f ∙ sym (S-nearest (suc k) h)
-    go (no f) =
-        let q : 960 - suc k ≡ suc k = omega arith in
-        ap S q
+    go (no f) = let q : 960 - suc k ≡ suc k = omega arith in ap S q
+
+mirror-half : (a b : ℕ) → a + b ≡ 960 → S a ≡ S b
+mirror-half a b e = go (decLt 480 a)
+  where
+    go : Dec (480 < a) → S a ≡ S b
+    go (yes l) = let f : a ≡ 960 - b = omega arith in ap S f ∙ mirror-quarter b (omega arith)
+    go (no g) = let f : 960 - a ≡ b = omega arith in sym (mirror-quarter a (omega arith)) ∙ ap S f
+
+-- S(960 - p) = S(p), for phases that add up to 960 modulo 1,920
+pub S-mirror : (p q : ℕ) → (p + q) % 1920 ≡ 960 → S p ≡ S q
+S-mirror p q e = sym (S-mod p) ∙ go (p % 1920) (q % 1920) (omega arith) (omega arith) (omega arith) ∙ S-mod q
+  where
+    go : (a b : ℕ) → a < 1920 → b < 1920 → (a + b) % 1920 ≡ 960 → S a ≡ S b
+    go a b ha hb h = split (decLt 960 a)
+      where
+        split : Dec (960 < a) → S a ≡ S b
+        split (yes l) =
+            let f : a - 960 + 960 ≡ a = omega arith in
+            let g : b - 960 + 960 ≡ b = omega arith in
+            ap S (sym f) ∙ S-opposite (a - 960) ∙ ap negℤ (mirror-half (a - 960) (b - 960) (omega arith)) ∙ sym (S-opposite (b - 960)) ∙ ap S g
+        split (no l) = mirror-half a b (omega arith)
 
 -- ---- the bound, from the tests of the quarter
 

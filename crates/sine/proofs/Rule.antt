@@ -32,9 +32,8 @@ module _ (f : ℕ → ℤ) (r : SineRule f) where
     where
       go : Dec (480 < p) → f p ≡ S p
       go (yes l) =
-          let q : 960 - p ≤ 480 = omega arith in
-          let e : 960 - (960 - p) ≡ p = omega arith in
-          ap f (sym e) ∙ r .mirror (960 - p) q ∙ first (960 - p) q ∙ sym (S-mirror (960 - p) q) ∙ ap S e
+          let e : (p + (960 - p)) % 1920 ≡ 960 = omega arith in
+          r .mirror p (960 - p) e ∙ first (960 - p) (omega arith) ∙ sym (S-mirror p (960 - p) e)
       go (no g) = first p (omega arith)
 
   cycle : (p : ℕ) → p < 1920 → f p ≡ S p

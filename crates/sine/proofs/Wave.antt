@@ -1,7 +1,7 @@
--- Laws of `wave`: its length, its entries, and that the phase counts modulo 1,920.
+-- Laws of `wave`: its two cases, its length, its entries, and that the phase counts modulo 1,920.
 -- Assumes nothing.
 use mathlib.Core.Path.{_≡_, refl, _∙_, ap, ap₂}
-use mathlib.Core.List.{List, _∷_}
+use mathlib.Core.List.{List, [], _∷_}
 use Prim.Native.Nat.{ℕ, zero, suc, _+_, _*_, _%_, _<_}
 use native.Mathlib.Nat.{suc-mul, not-suc-le-zero, le-of-suc-le-suc}
 use native.Mathlib.Omega.{arith}
@@ -10,6 +10,14 @@ use lib.ListN.{length, getD}
 use Rattle.sine.specs.Sine.{S}
 use Rattle.sine.specs.Wave.{wave}
 use Rattle.sine.proofs.Laws.{S-same}
+
+pub wave-none : (s p : ℕ) → wave 0 s p ≡ []
+unfolding wave
+wave-none s p = refl
+
+pub wave-more : (n s p : ℕ) → wave (suc n) s p ≡ S p ∷ wave n s (p + s)
+unfolding wave
+wave-more n s p = refl
 
 pub length-wave : (n s p : ℕ) → length (wave n s p) ≡ n
 unfolding wave

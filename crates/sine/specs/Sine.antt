@@ -50,7 +50,7 @@ pub record IsSine (p : ℕ) (e : ℤ) : Type 0 where
 -- S(p) is that number for p from 0 to 480; then S(960 - p) = S(p) and S(p + 960) = -S(p), phases taken modulo 1,920
 pub record SineRule (f : ℕ → ℤ) : Type 0 where
   pub quarter : (p : ℕ) → p ≤ 480 → IsSine p (f p)
-  pub mirror : (p : ℕ) → p ≤ 480 → f (960 - p) ≡ f p
+  pub mirror : (p q : ℕ) → (p + q) % 1920 ≡ 960 → f p ≡ f q
   pub opposite : (p : ℕ) → f (p + 960) ≡ negℤ (f p)
   pub period : (p : ℕ) → f (p + 1920) ≡ f p
 

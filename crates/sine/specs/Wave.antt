@@ -1,4 +1,4 @@
--- Lists of sines: a tone's samples, and the table of one cycle.
+-- Lists of sines: a tone's samples, and the table of one cycle. The definitions are ours; S is document 01's.
 -- Assumes nothing.
 use mathlib.Core.Path.{_≡_}
 use mathlib.Core.List.{List, [], _∷_}

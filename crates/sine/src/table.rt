@@ -1924,7 +1924,8 @@ const SINE: [i16; 1920] = [
     -20,
 ];
 
-// The one use of the table, and the one test of its rule. Each call copies the whole table, so no loop calls it.
+// The one use of the table, and the one test of its rule. Each call copies the whole table, so users take 32 samples at a
+// time, by `tone`.
 pub(crate) fn sines() -> [i16; 1920]
     ensures { λ r. ⌜ HoldsSine r ⌝ }
 {

@@ -7,29 +7,29 @@ use Prim.Native.Nat.{ℕ, _-_, _≤_}
 use borrow.Author.Tests.{leb-true}
 use lib.Dec.{leb}
 use lib.ListN.{length, getD}
-use Rattle.tones.specs.Bands.{originate, answer, bands, bandOk, tonesOf}
+use Rattle.tones.specs.Bands.{originate, answer, bands, isBand, tonesOf}
 
 pub record Band (b : ℕ) : Type 0 where
   pub low : 1 ≤ b
   pub high : b ≤ length bands
 
-pub in-band : (b : ℕ) → bandOk b ≡ true → Band b
-unfolding bandOk
+pub in-band : (b : ℕ) → isBand b ≡ true → Band b
+unfolding isBand
 in-band b h =
     record {
       low = leb-true 1 b (and-elim-left (leb 1 b) (leb b (length bands)) h);
       high = leb-true b (length bands) (and-elim-right (leb 1 b) (leb b (length bands)) h);
     }
 
-pub tones-band : (b : ℕ) → bandOk b ≡ true → tonesOf b ≡ getD bands (b - 1) originate
+pub tones-band : (b : ℕ) → isBand b ≡ true → tonesOf b ≡ getD bands (b - 1) originate
 unfolding tonesOf
 tones-band b h = rw h
 
-pub tones-else : (b : ℕ) → bandOk b ≡ false → tonesOf b ≡ originate
+pub tones-else : (b : ℕ) → isBand b ≡ false → tonesOf b ≡ originate
 unfolding tonesOf
 tones-else b h = rw h
 
 -- the rows by number
 pub rows : (tonesOf 1 ≡ originate) × (tonesOf 2 ≡ answer)
-unfolding tonesOf bandOk bands
+unfolding tonesOf isBand bands
 rows = (refl, refl)

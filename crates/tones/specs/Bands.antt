@@ -19,14 +19,15 @@ answer = record { space = 405; mark = 445 }
 unfoldable pub bands : List Tones
 bands = originate ∷ answer ∷ []
 
-unfoldable pub bandOk : ℕ → Bool
-bandOk band = leb 1 band && leb band (length bands)
+-- a number of a row
+unfoldable pub isBand : ℕ → Bool
+isBand band = leb 1 band && leb band (length bands)
 
 -- the tones of a band; a number that is no band gives those of band 1, and no accepted call asks for them
 unfoldable pub tonesOf : ℕ → Tones
-tonesOf band = cond (bandOk band) (getD bands (band - 1) originate) originate
+tonesOf band = cond (isBand band) (getD bands (band - 1) originate) originate
 
--- the step of a bit: 0 is space, 1 is mark
+-- the step of a bit: 0 is space, and 1, like every other number, is mark
 abbrev pub stepOf : Tones → ℕ → ℕ
 stepOf t zero = t .space
 stepOf t (suc b) = t .mark

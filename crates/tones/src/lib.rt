@@ -1,6 +1,6 @@
 // The tones of the bands: how far each moves the phase in a sample, in 1,920ths of a cycle (5 Hz).
 ghost use mathlib.Core.Path.{_≡_};
-ghost use Rattle.tones.specs.Bands.{bandOk, tonesOf};
+ghost use Rattle.tones.specs.Bands.{isBand, tonesOf};
 
 // The steps of the two tones. Neither is taken to be the larger.
 pub struct Tones {
@@ -21,7 +21,7 @@ const BANDS: [Tones; 2] = [
 ];
 
 pub fn is_band(band: u8) -> bool
-    ensures { λ r. ⌜ r ≡ bandOk band ⌝ }
+    ensures { λ r. ⌜ r ≡ isBand band ⌝ }
 {
     1 <= band && band <= 2
 }

@@ -6,12 +6,11 @@ use Prim.Native.Nat.{ℕ, _+_, _*_, _%_}
 use native.Mathlib.Omega.{arith}
 use lib.IntN.{pos}
 use lib.ListN.{take}
-use Rattle.sine.proofs.Examples.{values}
-use Rattle.sine.proofs.Examples as sine
+use Rattle.sine.proofs.Examples.{sine-examples, step-214}
 use Rattle.tones.specs.declared.Tones.{Tones}
 use Rattle.tones.specs.Bands.{tonesOf, stepOf, originate}
 use Rattle.tones.proofs.Laws.{rows}
-use Rattle.transmitter.specs.Sending.{send, phaseAfter, bitSteps, sendBits, phaseBits, charBits, dataBits}
+use Rattle.transmitter.specs.Samples.{send, phaseAfter, bitSteps, sendBits, phaseBits, charBits, dataBits}
 use Rattle.transmitter.specs.Examples.{Examples}
 use Rattle.transmitter.proofs.Laws.{phase-bit}
 
@@ -21,7 +20,7 @@ advance t u bit n e h p = rw e (phase-bit u p bit ∙ omega arith)
 
 four : take 4 (sendBits originate 0 (0 ∷ [])) ≡ pos 0 ∷ pos 3867 ∷ pos 5913 ∷ pos 5176 ∷ []
 unfolding send bitSteps
-four = rw (values .0, sine.space .0, sine.space .1, sine.space .2)
+four = rw (sine-examples .at-0, step-214 .0, step-214 .1, step-214 .2)
 
 ends : phaseBits originate 0 (charBits 65) ≡ 1280
 unfolding phaseAfter bitSteps charBits dataBits
@@ -30,7 +29,7 @@ ends = refl
 pub examples : Examples
 examples =
     record {
-      sine = values;
+      sine = sine-examples;
       space = rw (rows .0) four;
       character = rw (rows .0) ends;
       space-1 = advance (tonesOf 1) _ 0 1088 (rows .0) refl;

@@ -11,10 +11,10 @@ use Rattle.integers.specs.Sums.{total}
 use Rattle.sine.specs.Sine.{S}
 use Rattle.sine.specs.Wave.{wave}
 use Rattle.sine.proofs.Laws.{S-same}
-use Rattle.sine.proofs.Wave.{wave-same}
+use Rattle.sine.proofs.Wave.{wave-none, wave-more, wave-same}
 use Rattle.tones.specs.declared.Tones.{Tones}
 use Rattle.tones.specs.Bands.{stepOf}
-use Rattle.transmitter.specs.Sending.{send, phaseAfter, bitSteps, sendBits, phaseBits, dataBits, charBits, textBits}
+use Rattle.transmitter.specs.Samples.{send, phaseAfter, bitSteps, sendBits, phaseBits, dataBits, charBits, charactersBits}
 
 -- ---- steps
 
@@ -55,9 +55,11 @@ send-at p (s ∷ ss) (suc i) h =
 
 -- a run of one step
 send-run : (n s p : ℕ) → send p (replicate n s) ≡ wave n s p
-unfolding send wave
-send-run zero s p = refl
-send-run (suc n) s p = ap (λ (xs : List ℤ). S p ∷ xs) (send-run n s ((p + s) % 1920) ∙ wave-same n s ((p + s) % 1920) (p + s) (omega arith))
+unfolding send
+send-run zero s p = sym (wave-none s p)
+send-run (suc n) s p =
+    ap (λ (xs : List ℤ). S p ∷ xs) (send-run n s ((p + s) % 1920) ∙ wave-same n s ((p + s) % 1920) (p + s) (omega arith))
+    ∙ sym (wave-more n s p)
 
 phase-run : (n s p : ℕ) → phaseAfter p (replicate (suc n) s) ≡ (p + suc n * s) % 1920
 unfolding phaseAfter
@@ -106,7 +108,7 @@ pub length-char : (byte : ℕ) → length (charBits byte) ≡ 10
 unfolding charBits dataBits
 length-char byte = refl
 
-pub length-text : (bytes : List ℕ) → length (textBits bytes) ≡ 10 * length bytes
-unfolding textBits
-length-text [] = refl
-length-text (x ∷ xs) = length-append (charBits x) (textBits xs) ∙ omega (arith, length-char x, length-text xs)
+pub length-characters : (bytes : List ℕ) → length (charactersBits bytes) ≡ 10 * length bytes
+unfolding charactersBits
+length-characters [] = refl
+length-characters (x ∷ xs) = length-append (charBits x) (charactersBits xs) ∙ omega (arith, length-char x, length-characters xs)

@@ -1,29 +1,29 @@
 -- Demand 2 over lists of calls, from the law of lists of calls and the laws of sending.
 -- Assumes nothing.
 use mathlib.Core.Path.{_≡_, refl, _∙_, ap}
-use mathlib.Core.Bool.{not, true}
+use mathlib.Core.Bool.{true}
 use mathlib.Core.List.{List}
 use mathlib.Mathlib.Data.Bool.Basic.{and-elim-left, and-elim-right, and-intro}
-use Prim.Native.Nat.{ℕ, suc, _*_, _%_, _<_}
+use Prim.Native.Nat.{ℕ, suc, _%_}
 use borrow.Author.Tests.{lt-ltb, ltb-true}
 use lib.Dec.{ltb}
 use lib.IntN.{ℤ, pos}
 use lib.ListN.{length, getD}
-use Rattle.integers.proofs.Tests.{cond-case}
 use Rattle.calls.specs.Outcome.{Outcome, refused}
 use Rattle.calls.specs.Lists.{stateAfter}
-use Rattle.calls.proofs.Lists.{Run, Runs, refused-runs, accepted-runs, joined-state, joined-front}
-use Rattle.tones.specs.Bands.{bandOk, tonesOf}
+use Rattle.calls.proofs.Lists.{RunLaws, IsRun, refused-run, accepted-run, joined-state, joined-front}
+use Rattle.tones.specs.Bands.{isBand, tonesOf}
 use Rattle.transmitter.specs.declared.Transmitter.{Transmitter}
-use Rattle.transmitter.specs.Sending.{send, phaseAfter, bitSteps}
-use Rattle.transmitter.specs.Calls.{stateOk, samplesOf, behind, sent, idleOf, charactersOf}
+use Rattle.transmitter.specs.Samples.{send, phaseAfter, bitSteps}
+use Rattle.transmitter.specs.Calls.{inRange, samplesOf, afterBits, sent}
 use Rattle.transmitter.specs.Lists.{Call, idle, characters, callOf, bitsOf, samplesWritten, stepsSent, Continuous}
 use Rattle.transmitter.proofs.Laws.{length-send, send-at, phase-total, phase-below, send-bits-append, phase-bits-append}
+use Rattle.transmitter.proofs.Rules.{idle-case, characters-case}
 
 -- sending bits from a state is a run over them
-sending-run : Run behind samplesOf
+sending-laws : RunLaws afterBits samplesOf
 unfolding send phaseAfter bitSteps
-sending-run =
+sending-laws =
     record {
       after-none = λ s. refl;
       gives-none = λ s. refl;
@@ -33,36 +33,30 @@ sending-run =
 
 -- each call is one
 abbrev CallRuns : Call → Transmitter → Outcome Transmitter ℤ → Type 0
-CallRuns c = Runs behind samplesOf sending-run (bitsOf c)
+CallRuns c = IsRun afterBits samplesOf sending-laws (bitsOf c)
 
 module _ (c : Call) (s : Transmitter) (lent : List ℤ) where
   refuses : (n : ℕ) → CallRuns c s (refused (suc n) s lent)
-  refuses n = refused-runs behind samplesOf sending-run n s (bitsOf c) lent
+  refuses n = refused-run afterBits samplesOf sending-laws n s (bitsOf c) lent
 
   sends : CallRuns c s (sent s (bitsOf c) lent)
-  sends = accepted-runs behind samplesOf sending-run s (bitsOf c) lent
+  sends = accepted-run afterBits samplesOf sending-laws s (bitsOf c) lent
 
 call-runs : (s : Transmitter) (c : Call) → CallRuns c s (callOf s c)
-unfolding idleOf charactersOf
 call-runs s (idle lent) =
     let c = idle lent in
-    cond-case (CallRuns c s) (not (stateOk s)) _ _ (λ e. refuses c s lent 1)
-    (λ e. cond-case (CallRuns c s) (ltb (length lent) 96) _ _ (λ e. refuses c s lent 3)
-    (λ e. sends c s lent))
+    idle-case (CallRuns c s) s lent (refuses c s lent 1) (refuses c s lent 3) (sends c s lent)
 call-runs s (characters bytes lent) =
     let c = characters bytes lent in
-    cond-case (CallRuns c s) (not (stateOk s)) _ _ (λ e. refuses c s lent 1)
-    (λ e. cond-case (CallRuns c s) (ltb 100 (length bytes)) _ _ (λ e. refuses c s lent 2)
-    (λ e. cond-case (CallRuns c s) (ltb (length lent) (320 * length bytes)) _ _ (λ e. refuses c s lent 3)
-    (λ e. sends c s lent)))
+    characters-case (CallRuns c s) s lent bytes (refuses c s lent 1) (refuses c s lent 2) (refuses c s lent 3) (sends c s lent)
 
 -- steps keep a state in its ranges
-in-range : (s : Transmitter) (steps : List ℕ) → stateOk s ≡ true
-    → stateOk (record { band = s .band; phase = phaseAfter (s .phase) steps }) ≡ true
-unfolding stateOk
-in-range s steps h =
-    let band = and-elim-left (bandOk (s .band)) (ltb (s .phase) 1920) h in
-    let phase = ltb-true (s .phase) 1920 (and-elim-right (bandOk (s .band)) (ltb (s .phase) 1920) h) in
+stays : (s : Transmitter) (steps : List ℕ) → inRange s ≡ true
+    → inRange (record { band = s .band; phase = phaseAfter (s .phase) steps }) ≡ true
+unfolding inRange
+stays s steps h =
+    let band = and-elim-left (isBand (s .band)) (ltb (s .phase) 1920) h in
+    let phase = ltb-true (s .phase) 1920 (and-elim-right (isBand (s .band)) (ltb (s .phase) 1920) h) in
     and-intro band (lt-ltb (phaseAfter (s .phase) steps) 1920 (phase-below (s .phase) steps phase))
 
 pub continuous : (s : Transmitter) (calls : List Call) → Continuous s calls
@@ -72,11 +66,11 @@ continuous s calls =
       sample = λ i h. ap (λ (l : List ℤ). getD l i (pos 0)) wrote ∙ send-at (s .phase) (stepsSent s calls) i h;
       phase = ap (λ (t : Transmitter). t .phase % 1920) state ∙ phase-total (s .phase) (stepsSent s calls);
       band = ap (λ (t : Transmitter). t .band) state;
-      range = λ h. rw state (in-range s (stepsSent s calls) h);
+      range = λ h. rw state (stays s (stepsSent s calls) h);
     }
   where
     wrote : samplesWritten s calls ≡ send (s .phase) (stepsSent s calls)
-    wrote = joined-front behind samplesOf sending-run callOf bitsOf call-runs calls s
+    wrote = joined-front afterBits samplesOf sending-laws callOf bitsOf call-runs calls s
 
     state : stateAfter callOf s calls ≡ record { band = s .band; phase = phaseAfter (s .phase) (stepsSent s calls) }
-    state = joined-state behind samplesOf sending-run callOf bitsOf call-runs calls s
+    state = joined-state afterBits samplesOf sending-laws callOf bitsOf call-runs calls s

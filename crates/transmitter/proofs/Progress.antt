@@ -12,7 +12,7 @@ use Rattle.calls.proofs.Filling.{Filling, filling-start, filling-more, filling-
 use Rattle.sine.specs.Wave.{wave}
 use Rattle.tones.specs.declared.Tones.{Tones}
 use Rattle.tones.specs.Bands.{stepOf}
-use Rattle.transmitter.specs.Sending.{send, phaseAfter, bitSteps, sendBits, phaseBits, textBits, charBits}
+use Rattle.transmitter.specs.Samples.{send, phaseAfter, bitSteps, sendBits, phaseBits, charactersBits, charBits}
 use Rattle.transmitter.proofs.Laws.{send-bits-append, phase-bits-append, length-bits, send-bit, phase-bit}
 
 -- the bits `all` are sent from `phase` into the buffer `lent` from the place `from` on; `rest` of them is still to be sent, from
@@ -57,10 +57,10 @@ module _ {t : Tones} {phase : ℕ} {all : List ℕ} {lent : List ℤ} {from p : 
 pub bits-left : (bits : List ℕ) (i : ℕ) → i < length bits → drop i bits ≡ (getD bits i 0 ∷ []) ++ drop (i + 1) bits
 bits-left bits i h = rw add-one (drop-cons bits i 0 h)
 
-pub text-left : (bytes : List ℕ) (i : ℕ) → i < length bytes → textBits (drop i bytes) ≡ charBits (getD bytes i 0) ++ textBits (drop (i + 1) bytes)
-unfolding textBits
-text-left bytes i h = ap textBits (bits-left bytes i h)
+pub characters-left : (bytes : List ℕ) (i : ℕ) → i < length bytes → charactersBits (drop i bytes) ≡ charBits (getD bytes i 0) ++ charactersBits (drop (i + 1) bytes)
+unfolding charactersBits
+characters-left bytes i h = ap charactersBits (bits-left bytes i h)
 
-pub text-none : (bytes : List ℕ) (i : ℕ) → length bytes ≤ i → textBits (drop i bytes) ≡ []
-unfolding textBits
-text-none bytes i h = ap textBits (drop-of-length-le bytes {i = i} h)
+pub characters-none : (bytes : List ℕ) (i : ℕ) → length bytes ≤ i → charactersBits (drop i bytes) ≡ []
+unfolding charactersBits
+characters-none bytes i h = ap charactersBits (drop-of-length-le bytes {i = i} h)

@@ -3,17 +3,14 @@
 use mathlib.Core.Path.{_≡_}
 use mathlib.Core.List.{[], _∷_}
 use Prim.Native.Nat.{ℕ, _+_, _%_}
-use lib.IntN.{pos, negsuc}
+use lib.IntN.{pos}
 use lib.ListN.{take}
-use Rattle.sine.specs.Sine.{S}
+use Rattle.sine.specs.Examples.{SineExamples}
 use Rattle.tones.specs.Bands.{tonesOf}
-use Rattle.transmitter.specs.Sending.{sendBits, phaseBits, charBits}
+use Rattle.transmitter.specs.Samples.{sendBits, phaseBits, charBits}
 
 pub record Examples : Type 0 where
-  -- S(0) = 0, S(1) = 20, S(80) = 1553, S(160) = 3000, S(240) = 4243, S(320) = 5196, S(480) = 6000, S(1440) = -6000
-  pub sine :
-      (S 0 ≡ pos 0) × (S 1 ≡ pos 20) × (S 80 ≡ pos 1553) × (S 160 ≡ pos 3000)
-      × (S 240 ≡ pos 4243) × (S 320 ≡ pos 5196) × (S 480 ≡ pos 6000) × (S 1440 ≡ negsuc 5999)
+  pub sine : SineExamples
   -- band 1, four samples of space from phase 0: 0, 3867, 5913, 5176
   pub space : take 4 (sendBits (tonesOf 1) 0 (0 ∷ [])) ≡ pos 0 ∷ pos 3867 ∷ pos 5913 ∷ pos 5176 ∷ []
   -- band 1, character 41 hexadecimal from phase 0 ends at phase 1280

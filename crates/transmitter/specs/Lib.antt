@@ -1,4 +1,4 @@
-pub mod Sending
+pub mod Samples
 pub mod Calls
 pub mod Lists
 pub mod Examples

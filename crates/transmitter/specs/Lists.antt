@@ -1,4 +1,5 @@
--- Lists of sending calls, and demand 2 over them: each sample is S at the sum of all steps so far.
+-- Lists of sending calls (document 01, "Whole recordings"), and demand 2 over them: each sample is S at the sum of all steps so
+-- far (document 01, "Transmitter"; decision 15).
 -- Assumes nothing.
 use mathlib.Core.Path.{_≡_}
 use mathlib.Core.Bool.{true}
@@ -12,14 +13,15 @@ use Rattle.calls.specs.Lists.{joined, stateAfter}
 use Rattle.sine.specs.Sine.{S}
 use Rattle.tones.specs.Bands.{tonesOf}
 use Rattle.transmitter.specs.declared.Transmitter.{Transmitter}
-use Rattle.transmitter.specs.Sending.{bitSteps, idleBits, textBits}
-use Rattle.transmitter.specs.Calls.{stateOk, idleOf, charactersOf}
+use Rattle.transmitter.specs.Samples.{bitSteps, idleBits, charactersBits}
+use Rattle.transmitter.specs.Calls.{inRange, idleOf, charactersOf}
 
 -- a call with what it is handed: the bytes, and the lent output as it stands on entry
 pub data Call : Type 0 where
   idle : List ℤ → Call
   characters : List ℕ → List ℤ → Call
 
+-- the outcome of a call, as its contract has it
 abbrev pub callOf : Transmitter → Call → Outcome Transmitter ℤ
 callOf s (idle lent) = idleOf s lent
 callOf s (characters bytes lent) = charactersOf s bytes lent
@@ -27,7 +29,7 @@ callOf s (characters bytes lent) = charactersOf s bytes lent
 -- what a call is asked to send
 abbrev pub bitsOf : Call → List ℕ
 bitsOf (idle lent) = idleBits
-bitsOf (characters bytes lent) = textBits bytes
+bitsOf (characters bytes lent) = charactersBits bytes
 
 -- the samples that the accepted calls wrote, as they stood on return, joined in order
 abbrev pub samplesWritten : Transmitter → List Call → List ℤ
@@ -48,4 +50,4 @@ pub record Continuous (s : Transmitter) (calls : List Call) : Type 0 where
   pub phase : stateAfter callOf s calls .phase % 1920 ≡ (s .phase + total (stepsSent s calls)) % 1920
   pub band : stateAfter callOf s calls .band ≡ s .band
   -- a state in its ranges stays in them
-  pub range : stateOk s ≡ true → stateOk (stateAfter callOf s calls) ≡ true
+  pub range : inRange s ≡ true → inRange (stateAfter callOf s calls) ≡ true

@@ -5,10 +5,10 @@ ghost use Prim.Native.Nat.{_+_, _*_, _%_, _≤_};
 ghost use lib.ListN.{length};
 ghost use lib.Seq.{sets};
 ghost use Rattle.tones.specs.Bands.{stepOf};
-ghost use Rattle.transmitter.specs.Sending.{charBits, textBits, sendBits, phaseBits};
+ghost use Rattle.transmitter.specs.Samples.{charBits, charactersBits, sendBits, phaseBits};
 use tones::Tones;
 
-// Puts the samples of bits, 0 or 1 each, from the place `at` on, and answers the phase behind them.
+// Puts the samples of bits, 0 or 1 each, from the place `at` on, and answers the phase after them.
 pub(crate) fn put_bits(out: &mut [i16], at: usize, tones: Tones, phase: u16, bits: &[u8]) -> u16
     requires { ⌜ at + 32 * length (now bits) ≤ length (now out) ⌝ }
     ensures { λ r. ⌜ (r ≡ phaseBits tones phase (now (bits .entry)))
@@ -26,11 +26,11 @@ pub(crate) fn put_bits(out: &mut [i16], at: usize, tones: Tones, phase: u16, bit
     p
 }
 
-// Puts the samples of characters at the front of the buffer, and answers the phase behind them.
-pub(crate) fn put_text(out: &mut [i16], tones: Tones, phase: u16, bytes: &[u8]) -> u16
+// Puts the samples of characters at the front of the buffer, and answers the phase after them.
+pub(crate) fn put_characters(out: &mut [i16], tones: Tones, phase: u16, bytes: &[u8]) -> u16
     requires { ⌜ 320 * length (now bytes) ≤ length (now out) ⌝ }
-    ensures { λ r. ⌜ (r ≡ phaseBits tones phase (textBits (now (bytes .entry))))
-        × (now (out .exit) ≡ sets (now (out .entry)) 0 (sendBits tones phase (textBits (now (bytes .entry))))) ⌝ }
+    ensures { λ r. ⌜ (r ≡ phaseBits tones phase (charactersBits (now (bytes .entry))))
+        × (now (out .exit) ≡ sets (now (out .entry)) 0 (sendBits tones phase (charactersBits (now (bytes .entry))))) ⌝ }
 {
     let mut p = phase;
     let mut i = 0;

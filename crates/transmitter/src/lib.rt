@@ -2,12 +2,12 @@
 // state goes in and comes back by value.
 ghost use mathlib.Core.Path.{_≡_};
 ghost use Rattle.calls.specs.Outcome.{outcome};
-ghost use Rattle.transmitter.specs.Calls.{openOf, stateOk, idleOf, charactersOf};
+ghost use Rattle.transmitter.specs.Calls.{openOf, inRange, idleOf, charactersOf};
 
 mod bits;
 
 use crate::bits::put_bits;
-use crate::bits::put_text;
+use crate::bits::put_characters;
 use calls::Answer;
 
 // A band, and the phase of the next sample in 1,920ths of a cycle.
@@ -50,7 +50,7 @@ impl Transmitter {
     pub fn idle(self, out: &mut [i16]) -> Sent
         ensures { λ r. ⌜ outcome (r .answer) (r .transmitter) (now (out .exit)) ≡ idleOf self (now (out .entry)) ⌝ }
     {
-        if !self.is_ok() {
+        if !self.in_range() {
             return self.refused(2);
         }
         if out.len() < 96 {
@@ -74,7 +74,7 @@ impl Transmitter {
         ensures { λ r. ⌜ outcome (r .answer) (r .transmitter) (now (out .exit))
             ≡ charactersOf self (now (bytes .entry)) (now (out .entry)) ⌝ }
     {
-        if !self.is_ok() {
+        if !self.in_range() {
             return self.refused(2);
         }
         if 100 < bytes.len() {
@@ -86,7 +86,7 @@ impl Transmitter {
         }
         let band = self.band;
         let tones = tones::tones_of(band);
-        let phase = put_text(out, tones, self.phase, bytes);
+        let phase = put_characters(out, tones, self.phase, bytes);
         Sent {
             transmitter: Transmitter { band, phase },
             answer: Answer { number: 0, count },
@@ -94,8 +94,8 @@ impl Transmitter {
     }
 
     // The state is in its ranges.
-    fn is_ok(self) -> bool
-        ensures { λ r. ⌜ r ≡ stateOk self ⌝ }
+    fn in_range(self) -> bool
+        ensures { λ r. ⌜ r ≡ inRange self ⌝ }
     {
         tones::is_band(self.band) && self.phase < 1920
     }

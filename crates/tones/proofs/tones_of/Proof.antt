@@ -6,7 +6,7 @@ use Prim.Native.Nat.{_-_}
 use native.Mathlib.Omega.{arith}
 use borrow.Author.Needs.{needs}
 use Rattle.integers.proofs.Lists.{getD-inside}
-use Rattle.tones.specs.Bands.{bandOk, bands, originate}
+use Rattle.tones.specs.Bands.{isBand, bands, originate}
 use Rattle.tones.proofs.Laws.{Band, in-band, tones-band, tones-else}
 use Rattle.tones.proofs.tones_of.Statement.{statement}
 use Rattle.tones.proofs.tones_of.Tie as tie
@@ -14,7 +14,7 @@ use Rattle.tones.proofs.tones_of.Tie as tie
 is-band-requires : tie.Need-is-band-requires
 is-band-requires c κs = tt
 
-ok : (c : tie.Then1) → bandOk (c .before .before .args .band) ≡ true
+ok : (c : tie.Then1) → isBand (c .before .before .args .band) ≡ true
 ok c = sym (c .before .is-band .ensures) ∙ c .if1 .taken
 
 inside : (c : tie.Then1) → Band (c .before .before .args .band)

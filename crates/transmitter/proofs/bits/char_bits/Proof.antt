@@ -1,7 +1,7 @@
 -- `transmitter::bits::char_bits` meets its contract.
 -- Assumes nothing.
 use mathlib.Core.Path.{refl}
-use Rattle.transmitter.specs.Sending.{charBits, dataBits}
+use Rattle.transmitter.specs.Samples.{charBits, dataBits}
 use Rattle.transmitter.proofs.bits.char_bits.Statement.{statement}
 use Rattle.transmitter.proofs.bits.char_bits.Tie as tie
 

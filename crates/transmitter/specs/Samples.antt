@@ -47,6 +47,7 @@ dataBits (suc n) x = x % 2 ∷ dataBits n (x / 2)
 unfoldable pub charBits : ℕ → List ℕ
 charBits byte = 0 ∷ dataBits 8 byte ++ (1 ∷ [])
 
-unfoldable pub textBits : List ℕ → List ℕ
-textBits [] = []
-textBits (byte ∷ bytes) = charBits byte ++ textBits bytes
+-- bytes, one character after the other
+unfoldable pub charactersBits : List ℕ → List ℕ
+charactersBits [] = []
+charactersBits (byte ∷ bytes) = charBits byte ++ charactersBits bytes

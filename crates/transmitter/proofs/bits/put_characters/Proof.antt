@@ -1,4 +1,4 @@
--- `transmitter::bits::put_text` meets its contract: each turn sends the ten bits of one character.
+-- `transmitter::bits::put_characters` meets its contract: each turn sends the ten bits of one character.
 -- Assumes nothing.
 use mathlib.Core.Path.{_≡_, sym, ap, _∙_}
 use mathlib.Core.List.{List, _++_}
@@ -6,15 +6,15 @@ use Prim.Native.Nat.{ℕ, _+_, _*_, _-_, _≤_, _<_}
 use native.Mathlib.Omega.{arith}
 use borrow.Author.Needs.{needs}
 use lib.ListN.{length, drop, getD}
-use Rattle.transmitter.specs.Sending.{charBits, textBits}
+use Rattle.transmitter.specs.Samples.{charBits, charactersBits}
 use Rattle.transmitter.proofs.Laws.{length-char}
-use Rattle.transmitter.proofs.Progress.{Progress, progress-start, progress-more, progress-end, text-left, text-none}
-use Rattle.transmitter.proofs.bits.put_text.Statement.{statement}
-use Rattle.transmitter.proofs.bits.put_text.Tie as tie
+use Rattle.transmitter.proofs.Progress.{Progress, progress-start, progress-more, progress-end, characters-left, characters-none}
+use Rattle.transmitter.proofs.bits.put_characters.Statement.{statement}
+use Rattle.transmitter.proofs.bits.put_characters.Tie as tie
 
 abbrev Inv-loop : tie.InvT-loop
 Inv-loop out₀ tones phase bytes p₀ i₀ out p i =
-    (i ≤ length bytes) × Progress tones phase (textBits bytes) out₀ 0 p (textBits (drop i bytes)) out (320 * i)
+    (i ≤ length bytes) × Progress tones phase (charactersBits bytes) out₀ 0 p (charactersBits (drop i bytes)) out (320 * i)
 
 abbrev μ-loop : tie.MeasureT-loop
 μ-loop out₀ tones phase bytes p₀ i₀ out p i = length bytes - i
@@ -22,7 +22,7 @@ abbrev μ-loop : tie.MeasureT-loop
 loop-holds : tie.Need-loop-holds Inv-loop μ-loop
 loop-holds c =
     let a = c .before .args in
-    (omega arith, progress-start (a .tones) (a .phase) (textBits (a .bytes .now)) (a .out .now) 0)
+    (omega arith, progress-start (a .tones) (a .phase) (charactersBits (a .bytes .now)) (a .out .now) 0)
 
 shared-slice-read-char-bits : tie.Need-shared-slice-read-char-bits Inv-loop μ-loop
 shared-slice-read-char-bits c = omega arith
@@ -53,13 +53,13 @@ loop-again c =
     let a = c .before .before .before .before .before .before .before .before .before .args in
     let bytes = a .bytes .now in
     let bits = c .before .before .before .before .char-bits .result in
-    let rest = textBits (drop (l .i + 1) bytes) in
+    let rest = charactersBits (drop (l .i + 1) bytes) in
     let lt : l .i < length bytes = omega arith in
     let e : bits ≡ charBits (getD bytes (l .i) 0) = c .before .before .before .before .char-bits .ensures in
     let n : length bits ≡ 10 = ap length e ∙ length-char (getD bytes (l .i) 0) in (
       omega arith,
       progress-more (l .inv .1) bits rest (c .before .put-bits .result) (320 * (l .i + 1)) (c .before .put-bits .last .0)
-          (text-left bytes (l .i) lt ∙ ap (λ (bs : List ℕ). bs ++ rest) (sym e))
+          (characters-left bytes (l .i) lt ∙ ap (λ (bs : List ℕ). bs ++ rest) (sym e))
           (c .before .put-bits .ensures .0)
           (omega arith)
           (c .before .put-bits .ensures .1),
@@ -71,10 +71,10 @@ same-length c = c .before .loop .inv .1 .filling .long
 returns : tie.Need-returns Inv-loop μ-loop
 returns c =
     let l = c .before .loop in
-    progress-end (l .inv .1) (text-none (c .before .before .before .args .bytes .now) (l .i) (c .loop-test .left))
+    progress-end (l .inv .1) (characters-none (c .before .before .before .args .bytes .now) (l .i) (c .loop-test .left))
 
-pub put-text-spec : {M : Type 1} → statement M
-put-text-spec =
+pub put-characters-spec : {M : Type 1} → statement M
+put-characters-spec =
     tie.close
     (tie.spec
     Inv-loop
