@@ -10,7 +10,7 @@ use lib.IntN.{negℤ, natAbs, negℤ-negℤ}
 use mir.Syntax.{w16}
 use mir.Val.{SFits}
 use Rattle.integers.proofs.Size.{natAbs-negℤ, mag-natAbs}
-use Rattle.sine.specs.Sine.{S, half, nearest, series, scale}
+use Rattle.sine.specs.Sine.{S, half, nearest}
 use Rattle.sine.proofs.Quarter.{bound}
 
 -- ---- the phase counts modulo 1920
@@ -69,7 +69,7 @@ S-nearest p h =
     S-first p (omega arith) ∙ ap half e ∙ half-up p h
 
 S-960 : S (960 - 0) ≡ S 0
-unfolding S half nearest series scale
+unfolding S half nearest
 S-960 = refl
 
 mirror-quarter : (p : ℕ) → p ≤ 480 → S (960 - p) ≡ S p

@@ -3,10 +3,10 @@
 -- Assumes nothing.
 use mathlib.Core.Path.{_≡_}
 use mathlib.Core.Bool.{cond}
-use Prim.Native.Nat.{ℕ, zero, suc, _+_, _*_, _-_, _%_, _^_, _≤_}
+use Prim.Native.Nat.{ℕ, zero, suc, _+_, _*_, _-_, _/_, _%_, _^_, _≤_}
 use lib.Dec.{leb, ltb}
 use lib.IntN.{ℤ, pos, negℤ, _+ℤ_, _-ℤ_, _*ℤ_}
-use lib.Signed.{_<ℤ_, quotZ}
+use lib.Signed.{_<ℤ_}
 
 -- ---- the sine series of a / b: through the power 2 k + 1 its sum is the fraction series a b k / scale b k
 
@@ -54,11 +54,29 @@ pub record SineRule (f : ℕ → ℤ) : Type 0 where
   pub opposite : (p : ℕ) → f (p + 960) ≡ negℤ (f p)
   pub period : (p : ℕ) → f (p + 1920) ≡ f p
 
--- ---- S and C, as they are computed
+-- ---- S and C, as they are computed: L by Horner's scheme on natural numbers, which is quick
 
--- 6000 L + 1/2, rounded down
+pub record Fraction : Type 0 where
+  pub over : ℕ
+  pub under : ℕ
+
+-- 1 - x f / c, where x = aa / bb
+abbrev pub stage : ℕ → ℕ → ℕ → Fraction → Fraction
+stage aa bb c f = let d : ℕ = bb * c * f .under in record { over = d - aa * f .over; under = d }
+
+-- 1 - x / (2 3) (1 - x / (4 5) (.. (1 - x f / (2 k (2 k + 1)))))
+unfoldable pub horner : ℕ → ℕ → ℕ → Fraction → Fraction
+horner aa bb zero f = f
+horner aa bb (suc k) f = horner aa bb k (stage aa bb ((2 * k + 2) * (2 * k + 3)) f)
+
+-- 6000 a f / b + 1/2, rounded down
+abbrev pub rounded : ℕ → ℕ → Fraction → ℕ
+rounded a b f = let d : ℕ = b * f .under in (12000 * a * f .over + d) / (2 * d)
+
+-- the whole number nearest to 6000 L
 unfoldable pub nearest : ℕ → ℤ
-nearest p = quotZ (pos 12000 *ℤ lower p +ℤ pos (scale unit 9)) (pos (2 * scale unit 9))
+unfolding horner
+nearest p = let a : ℕ = 314159265358979 * p in pos (rounded a unit (horner (a * a) (unit * unit) 9 (record { over = 1; under = 1 })))
 
 -- the first half of the cycle, mirrored at 480
 unfoldable pub half : ℕ → ℤ

@@ -11,7 +11,7 @@ use lib.Dec.{eqb}
 use lib.IntN.{ℤ, pos}
 use lib.ListN.{length, getD}
 use Rattle.integers.proofs.Tests.{eqZ, eqZ-true, passes, passes-at}
-use Rattle.sine.specs.Sine.{S, half, nearest, series, scale}
+use Rattle.sine.specs.Sine.{S, half, nearest}
 use Rattle.sine.specs.Wave.{HoldsSine}
 use Rattle.sine.proofs.table.sines.Statement.{statement}
 use Rattle.sine.proofs.table.sines.Tie as tie
@@ -27,7 +27,7 @@ carried xs t =
     record { at = λ k h. eqZ-true (getD xs k (pos 0)) (S k) (passes-at right (pos 0) xs all k (omega arith)) }
 
 returns : tie.Need-returns
-unfolding S half nearest series scale
+unfolding S half nearest
 returns c = carried _ refl
 
 pub sines-spec : {M : Type 1} → statement M

@@ -40,7 +40,7 @@ tones-of-requires : tie.Need-tones-of-requires
 tones-of-requires c κs = tt
 
 slice-aggregate-put-bits : tie.Need-slice-aggregate-put-bits
-slice-aggregate-put-bits c = search needs
+slice-aggregate-put-bits c = refl
 
 put-bits-requires : tie.Need-put-bits-requires
 put-bits-requires c κs = omega arith
