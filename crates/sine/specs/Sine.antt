@@ -56,15 +56,16 @@ pub record SineRule (f : ℕ → ℤ) : Type 0 where
 
 -- ---- S and C, as they are computed: L by Horner's scheme on natural numbers, which is quick
 
+-- over / under
 pub record Fraction : Type 0 where
   pub over : ℕ
   pub under : ℕ
 
--- 1 - x f / c, where x = aa / bb
+-- 1 - x / c times f, where x = aa / bb
 abbrev pub stage : ℕ → ℕ → ℕ → Fraction → Fraction
 stage aa bb c f = let d : ℕ = bb * c * f .under in record { over = d - aa * f .over; under = d }
 
--- 1 - x / (2 3) (1 - x / (4 5) (.. (1 - x f / (2 k (2 k + 1)))))
+-- 1 - x / (2 * 3) times (1 - x / (4 * 5) times (.. (1 - x / (2 k * (2 k + 1)) times f)))
 unfoldable pub horner : ℕ → ℕ → ℕ → Fraction → Fraction
 horner aa bb zero f = f
 horner aa bb (suc k) f = horner aa bb k (stage aa bb ((2 * k + 2) * (2 * k + 3)) f)
