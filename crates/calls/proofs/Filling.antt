@@ -6,7 +6,7 @@ use Prim.Native.Nat.{ℕ, suc, _+_, _<_, _≤_}
 use native.Mathlib.Numerals.{add-one}
 use lib.ListN.{length, getD, drop, set, length-set}
 use lib.Seq.{sets, length-sets, drop-cons}
-use Rattle.integers.proofs.Lists.{sets-append, sets-front}
+use Rattle.integers.proofs.Lists.{sets-append, sets-front, sets-out}
 
 -- `lent` is to get the list `all` from the place `from` on; it is `now`, and `rest` is still to come from the place `at` on
 pub record Filling {A : Type 0} (lent : List A) (from : ℕ) (all now : List A) (at : ℕ) (rest : List A) : Type 0 where
@@ -31,6 +31,10 @@ module _ {A : Type 0} where
     pub filling-next : (xs : List A) (i : ℕ) (d x : A) → i < length xs → x ≡ getD xs i d → Filling lent from all now at (drop i xs)
         → Filling lent from all (set now at x) (at + 1) (drop (i + 1) xs)
     filling-next xs i d x h e f = rw (e, add-one i) (filling-one (getD xs i d) (drop (suc i) xs) (rw (drop-cons xs i d) at f))
+
+    -- there is no place any more, and what is still to come goes nowhere
+    pub filling-skip : (rest less : List A) → length now ≤ at → Filling lent from all now at rest → Filling lent from all now at less
+    filling-skip rest less h f = record { long = f .long; whole = sets-out now at less h ∙ sym (sets-out now at rest h) ∙ f .whole }
 
     -- nothing is left
     pub filling-end : Filling lent from all now at [] → now ≡ sets lent from all

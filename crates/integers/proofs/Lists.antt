@@ -1,11 +1,12 @@
--- Laws of lists that the library lacks: a place inside a list, and stores one behind the other.
+-- Laws of lists that the library lacks: a place inside a list, cuts, and stores one behind the other.
 -- Assumes nothing.
-use mathlib.Core.Path.{_≡_, refl, _∙_}
-use mathlib.Core.List.{List, [], _∷_, _++_}
+use mathlib.Core.Path.{_≡_, refl, sym, ap, _∙_}
+use mathlib.Core.List.{List, [], _∷_, _++_, append-nil}
 use Prim.Native.Nat.{ℕ, zero, suc, _+_, _<_, _≤_}
 use native.Mathlib.Nat.{add-zero, add-suc, suc-add, zero-add, not-suc-le-zero, le-of-suc-le-suc}
-use lib.ListN.{length, getD, set, drop}
-use lib.Seq.{sets, sets-eq}
+use native.Mathlib.Omega.{arith}
+use lib.ListN.{length, getD, set, take, drop, drop-of-length-le}
+use lib.Seq.{sets, sets-eq, set-out, take-nil}
 
 module _ {A : Type 0} where
   -- inside a list the default does not count
@@ -14,11 +15,31 @@ module _ {A : Type 0} where
   getD-inside (x ∷ l) zero d e h = refl
   getD-inside (x ∷ l) (suc k) d e h = getD-inside l k d e (le-of-suc-le-suc h)
 
+  -- a cut behind and one before
+  pub drop-take : (m n : ℕ) (l : List A) → drop m (take (m + n) l) ≡ take n (drop m l)
+  drop-take zero n l = rw zero-add
+  drop-take (suc m) n [] = rw suc-add (sym (take-nil n))
+  drop-take (suc m) n (x ∷ l) = rw suc-add (drop-take m n l)
+
   -- stores in two parts
   pub sets-append : (l : List A) (i : ℕ) (xs ys : List A) → sets l i (xs ++ ys) ≡ sets (sets l i xs) (i + length xs) ys
   sets-append l i [] ys = rw add-zero
   sets-append l i (x ∷ xs) ys = rw (add-suc, ← suc-add) (sets-append (set l i x) (suc i) xs ys)
 
+  -- stores behind the end do nothing
+  pub sets-out : (l : List A) (i : ℕ) (xs : List A) → length l ≤ i → sets l i xs ≡ l
+  sets-out l i [] h = refl
+  sets-out l i (x ∷ xs) h =
+      let e : length l ≤ suc i = omega arith in
+      rw (set-out l i x h) (sets-out l (suc i) xs e)
+
   -- stores from the front on
   pub sets-front : (new old : List A) → length new ≤ length old → sets old 0 new ≡ new ++ drop (length new) old
   sets-front new old h = sets-eq new old 0 (rw zero-add h) ∙ rw zero-add
+
+  -- stores over a whole list
+  pub sets-whole : (new old : List A) → length new ≡ length old → sets old 0 new ≡ new
+  sets-whole new old e =
+      sets-front new old (omega arith)
+      ∙ ap (λ (l : List A). new ++ l) (drop-of-length-le old {i = length new} (omega arith))
+      ∙ append-nil new

@@ -1,13 +1,16 @@
--- The size of a whole number, natAbs: of a negative, a sum and a product.
+-- The size of a whole number, natAbs: of a negative, a sum and a product, and that a small number fits a signed width.
 -- Assumes nothing.
 use mathlib.Core.Path.{_≡_, refl}
-use Prim.Native.Nat.{ℕ, zero, suc, _+_, _*_, _≤_, _<_}
-use native.Mathlib.Nat.{le-refl, le-suc}
+use Prim.Native.Nat.{ℕ, zero, suc, _+_, _*_, _^_, _≤_, _<_}
+use native.Mathlib.Nat.{le-refl, le-suc, le-trans, lt-of-le-of-lt, mul-le-mul}
 use native.Mathlib.Decide.{decLt}
 use native.Mathlib.Omega.{arith}
 use borrow.Author.Tests.{lt-ltb, le-ltb}
+use lib.Dec.{T, ltb, ltb→lt}
 use lib.IntN.{ℤ, pos, negsuc, negℤ, natAbs, subℕ, _+ℤ_, _*ℤ_}
 use lib.Signed.{mag}
+use mir.Syntax.{Width}
+use mir.Val.{SFits, hbits}
 
 pub natAbs-negℤ : (z : ℤ) → natAbs (negℤ z) ≡ natAbs z
 natAbs-negℤ (pos zero) = refl
@@ -37,3 +40,14 @@ natAbs-*ℤ (negsuc a) (negsuc b) = refl
 pub mag-natAbs : (z : ℤ) → mag z ≤ natAbs z
 mag-natAbs (pos n) = le-refl n
 mag-natAbs (negsuc n) = le-suc n
+
+-- a product by the bounds of its factors, and a sum by those of its terms
+pub mul-size : (a b : ℤ) {m n : ℕ} → natAbs a ≤ m → natAbs b ≤ n → natAbs (a *ℤ b) ≤ m * n
+mul-size a b h k = rw (natAbs-*ℤ a b) (mul-le-mul h k)
+
+pub add-size : (a b : ℤ) {m n : ℕ} → natAbs a ≤ m → natAbs b ≤ n → natAbs (a +ℤ b) ≤ m + n
+add-size a b h k = omega (arith, natAbs-+ℤ a b)
+
+-- a number of size at most n fits a width that n fits
+pub fits-size : {w : Width} {z : ℤ} {n : ℕ} → natAbs z ≤ n → T (ltb n (2 ^ hbits w)) → SFits w z
+fits-size {w} {z} {n} h t = record { sfits = lt-of-le-of-lt (le-trans (mag-natAbs z) h) (ltb→lt n (2 ^ hbits w) t) }

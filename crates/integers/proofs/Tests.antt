@@ -1,6 +1,6 @@
 -- Tests that antt computes over a list or a range, and what each gives at every place; and properties of a choice.
 -- Assumes nothing.
-use mathlib.Core.Path.{_≡_, _∙_, ap}
+use mathlib.Core.Path.{_≡_, refl, _∙_, ap}
 use mathlib.Core.Bool.{Bool, true, false, cond, _&&_, false≢true}
 use mathlib.Core.List.{List, [], _∷_}
 use mathlib.Core.Logic.{_⊎_, inl, inr}
@@ -12,10 +12,14 @@ use lib.Dec.{T, eqb}
 use lib.IntN.{ℤ, pos, negsuc}
 use lib.ListN.{length, getD}
 
+-- what holds of each side, under the test that leads to it, holds of a choice
+pub cond-split : {A : Type 0} (P : A → Type 0) (b : Bool) (x y : A) → (b ≡ true → P x) → (b ≡ false → P y) → P (cond b x y)
+cond-split P true x y p q = p refl
+cond-split P false x y p q = q refl
+
 -- what holds of both sides holds of a choice
 pub cond-case : {A : Type 0} (P : A → Type 0) (b : Bool) (x y : A) → P x → P y → P (cond b x y)
-cond-case P true x y p q = p
-cond-case P false x y p q = q
+cond-case P b x y p q = cond-split P b x y (λ e. p) (λ e. q)
 
 -- a test that passes, as the type that the orders of the library hold
 pub true-T : (b : Bool) → b ≡ true → T b

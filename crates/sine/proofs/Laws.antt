@@ -9,7 +9,7 @@ use borrow.Author.Tests.{le-ltb, lt-ltb, le-leb, lt-leb}
 use lib.IntN.{negℤ, natAbs, negℤ-negℤ}
 use mir.Syntax.{w16}
 use mir.Val.{SFits}
-use Rattle.integers.proofs.Size.{natAbs-negℤ, mag-natAbs}
+use Rattle.integers.proofs.Size.{natAbs-negℤ, fits-size}
 use Rattle.sine.specs.Sine.{S, half, nearest}
 use Rattle.sine.proofs.Quarter.{bound}
 
@@ -126,4 +126,4 @@ S-bound p = go (decLt (p % 1920) 960)
     go (no f) = let h : 960 ≤ p % 1920 = omega arith in rw (S-second p h, natAbs-negℤ (half (p % 960))) low
 
 pub S-fits : (p : ℕ) → SFits w16 (S p)
-S-fits p = record { sfits = omega (arith, mag-natAbs (S p), S-bound p) }
+S-fits p = fits-size (S-bound p) tt

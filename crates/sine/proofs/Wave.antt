@@ -1,15 +1,16 @@
--- Laws of `wave`: its two cases, its length, its entries, and that the phase counts modulo 1,920.
+-- Laws of `wave`: its two cases, its length, its entries and their size, and that the phase counts modulo 1,920.
 -- Assumes nothing.
 use mathlib.Core.Path.{_≡_, refl, _∙_, ap, ap₂}
 use mathlib.Core.List.{List, [], _∷_}
-use Prim.Native.Nat.{ℕ, zero, suc, _+_, _*_, _%_, _<_}
+use Prim.Native.Nat.{ℕ, zero, suc, _+_, _*_, _%_, _<_, _≤_, zero-le}
 use native.Mathlib.Nat.{suc-mul, not-suc-le-zero, le-of-suc-le-suc}
 use native.Mathlib.Omega.{arith}
-use lib.IntN.{ℤ, pos}
+use lib.IntN.{ℤ, pos, natAbs}
 use lib.ListN.{length, getD}
+use Rattle.integers.specs.Sums.{Bounded}
 use Rattle.sine.specs.Sine.{S}
 use Rattle.sine.specs.Wave.{wave}
-use Rattle.sine.proofs.Laws.{S-same}
+use Rattle.sine.proofs.Laws.{S-same, S-bound}
 
 pub wave-none : (s p : ℕ) → wave 0 s p ≡ []
 unfolding wave
@@ -37,3 +38,12 @@ pub wave-same : (n s p q : ℕ) → p % 1920 ≡ q % 1920 → wave n s p ≡ wav
 unfolding wave
 wave-same zero s p q e = refl
 wave-same (suc n) s p q e = ap₂ (λ (x : ℤ) (xs : List ℤ). x ∷ xs) (S-same p q e) (wave-same n s (p + s) (q + s) (omega arith))
+
+entry-bound : (n s p k : ℕ) → natAbs (getD (wave n s p) k (pos 0)) ≤ 6000
+unfolding wave
+entry-bound zero s p k = zero-le
+entry-bound (suc n) s p zero = S-bound p
+entry-bound (suc n) s p (suc k) = entry-bound n s (p + s) k
+
+pub wave-bound : (n s p : ℕ) → Bounded 6000 (wave n s p)
+wave-bound n s p = record { at = entry-bound n s p }

@@ -1,6 +1,7 @@
-// The tones of the bands: how far each moves the phase in a sample, in 1,920ths of a cycle (5 Hz).
+// The tones of the bands: how far each moves the phase in a sample, in 1,920ths of a cycle (5 Hz). And the range of a sample.
 ghost use mathlib.Core.Path.{_≡_};
 ghost use Rattle.tones.specs.Bands.{isBand, tonesOf};
+ghost use Rattle.tones.specs.Samples.{isSample, areSamples};
 
 // The steps of the two tones. Neither is taken to be the larger.
 pub struct Tones {
@@ -35,4 +36,24 @@ pub fn tones_of(band: u8) -> Tones
     } else {
         BANDS[0]
     }
+}
+
+// Every number is a sample. It goes on behind one that is not, so that the loop becomes vector code.
+pub fn are_samples(xs: &[i16]) -> bool
+    ensures { λ r. ⌜ r ≡ areSamples (now (xs .entry)) ⌝ }
+{
+    let mut good = true;
+    let mut k: usize = 0;
+    while k < xs.len() {
+        good = good & is_sample(xs[k]);
+        k += 1;
+    }
+    good
+}
+
+// Both sides are tested, since -32768 has no opposite.
+fn is_sample(x: i16) -> bool
+    ensures { λ r. ⌜ r ≡ isSample x ⌝ }
+{
+    -8191 <= x && x <= 8191
 }

@@ -6,6 +6,7 @@ ghost use lib.ListN.{length};
 ghost use lib.Seq.{sets};
 ghost use Rattle.tones.specs.Bands.{stepOf};
 ghost use Rattle.transmitter.specs.Samples.{charBits, charactersBits, sendBits, phaseBits};
+use calls::put;
 use tones::Tones;
 
 // Puts the samples of bits, 0 or 1 each, from the place `at` on, and answers the phase after them.
@@ -71,16 +72,4 @@ fn next_phase(step: u16, phase: u16) -> u16
     ensures { λ r. ⌜ r ≡ (phase + 32 * step) % 1920 ⌝ }
 {
     ((phase as u32 + 32 * (step as u32)) % 1920) as u16
-}
-
-// Copies samples to the buffer from the place `at` on.
-fn put(out: &mut [i16], at: usize, samples: &[i16])
-    requires { ⌜ at + length (now samples) ≤ length (now out) ⌝ }
-    ensures { λ r. ⌜ now (out .exit) ≡ sets (now (out .entry)) at (now (samples .entry)) ⌝ }
-{
-    let mut i = 0;
-    while i < samples.len() {
-        out[at + i] = samples[i];
-        i += 1;
-    }
 }

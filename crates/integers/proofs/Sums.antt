@@ -1,0 +1,41 @@
+-- Laws of sums: a sum of products as a dot product, and a dot product computed place by place.
+-- Assumes nothing.
+use mathlib.Core.Path.{_≡_, refl, sym, ap, ap₂, _∙_}
+use mathlib.Core.List.{List, [], _∷_}
+use Prim.Native.Nat.{ℕ, zero, suc, _+_, _<_}
+use native.Mathlib.Numerals.{add-one}
+use native.Mathlib.Omega.{arith}
+use lib.IntN.{ℤ, pos, _+ℤ_, _*ℤ_, +ℤ-assoc, zero-*ℤ}
+use lib.ListN.{length, getD, drop}
+use lib.Seq.{drop-cons}
+use Rattle.integers.specs.Sums.{dot, sumTo}
+
+-- sums of equal terms
+pub sumTo-same : (n : ℕ) (f g : ℕ → ℤ) → ((k : ℕ) → k < n → f k ≡ g k) → sumTo n f ≡ sumTo n g
+unfolding sumTo
+sumTo-same zero f g h = refl
+sumTo-same (suc n) f g h =
+    ap₂ (λ (x y : ℤ). x +ℤ y) (h 0 (omega arith)) (sumTo-same n (λ k. f (suc k)) (λ k. g (suc k)) (λ k l. h (suc k) (omega arith)))
+
+-- the products of two lists, place by place
+abbrev pub products : List ℤ → List ℤ → ℕ → ℤ
+products xs ws k = getD xs k (pos 0) *ℤ getD ws k (pos 0)
+
+nothing : (ws : List ℤ) → sumTo (length ws) (products [] ws) ≡ pos 0
+unfolding sumTo
+nothing [] = refl
+nothing (w ∷ ws) = ap₂ (λ (x y : ℤ). x +ℤ y) (zero-*ℤ w) (nothing ws)
+
+pub sumTo-dot : (xs ws : List ℤ) → sumTo (length ws) (products xs ws) ≡ dot xs ws
+unfolding sumTo dot
+sumTo-dot [] ws = nothing ws
+sumTo-dot (x ∷ xs) [] = refl
+sumTo-dot (x ∷ xs) (w ∷ ws) = ap (λ (y : ℤ). x *ℤ w +ℤ y) (sumTo-dot xs ws)
+
+-- the dot product is the sum a of the first k products and the rest
+pub dot-next : (xs ws : List ℤ) (k : ℕ) (a : ℤ) → k < length xs → k < length ws
+    → a +ℤ dot (drop k xs) (drop k ws) ≡ a +ℤ products xs ws k +ℤ dot (drop (k + 1) xs) (drop (k + 1) ws)
+unfolding dot
+dot-next xs ws k a h l =
+    rw (add-one k, drop-cons xs k (pos 0) h, drop-cons ws k (pos 0) l)
+    (sym (+ℤ-assoc a (products xs ws k) (dot (drop (suc k) xs) (drop (suc k) ws))))

@@ -1,0 +1,215 @@
+-- An accepted block: scanning the head, and then the block itself, reads the block as the step rule does.
+-- Assumes nothing.
+use mathlib.Core.Path.{_≡_, refl, sym, ap, ap₂, _∙_}
+use mathlib.Core.Bool.{true}
+use mathlib.Core.List.{List, [], _∷_, _++_}
+use mathlib.Mathlib.Data.Bool.Basic.{and-intro}
+use Prim.Native.Nat.{ℕ, _+_, _-_, _<_, _≤_, min}
+use native.Mathlib.Decide.{decLt}
+use native.Mathlib.Nat.{zero-add}
+use native.Mathlib.Omega.{arith}
+use borrow.Author.Tests.{lt-ltb, le-ltb}
+use lib.IntN.{ℤ, pos}
+use lib.ListN.{length, take, drop, length-append, length-drop}
+use lib.Seq.{sets, length-sets, length-take-le, take-all, take-at, drop-append-le, drop-append-add}
+use Rattle.integers.proofs.Lists.{sets-append, sets-front, sets-whole, drop-take}
+use Rattle.calls.specs.Outcome.{outcome, accepted}
+use Rattle.tones.specs.Bands.{tonesOf}
+use Rattle.tones.specs.Samples.{areSamples}
+use Rattle.tones.proofs.Samples.{samples-append, samples-take, samples-drop}
+use Rattle.receiver.specs.declared.Decision.{Decision}
+use Rattle.receiver.specs.declared.Progress.{Progress}
+use Rattle.receiver.specs.declared.Receiver.{Receiver}
+use Rattle.receiver.specs.Energy.{decisionOf}
+use Rattle.receiver.specs.Step.{Control, controlOf, stateAfter, eventsAfter}
+use Rattle.receiver.specs.Windows.{decisions, follow, reports, controlIn, progressed, lastWindow}
+use Rattle.receiver.specs.Calls.{isControl, inRange, placesFor}
+use Rattle.receiver.proofs.Ranges.{in-range, follow-kept}
+use Rattle.receiver.proofs.Counting.{events-few}
+use Rattle.receiver.proofs.Windows.{decisions-seam, follow-append, reports-append, decisionsOver, by-windows, band-after, window-after}
+
+-- ---- the lists that the code makes
+
+-- the head: the window and the first n samples, stored one behind the other
+pub head-is : (zeros old xs head : List ℤ) (n : ℕ) → length zeros ≡ 64 → length old ≡ 32 → n ≤ 31 → n ≤ length xs
+    → head ≡ sets (sets zeros 0 old) 32 (take n xs) → (length head ≡ 64) × (take (32 + n) head ≡ old ++ take n xs)
+head-is zeros old xs head n lz lo h l e = (ap length stored ∙ long, ap (take (32 + n)) stored ∙ take-at (old ++ take n xs) _ (32 + n) front)
+  where
+    short : length (take n xs) ≡ n
+    short = length-take-le n xs l
+
+    front : length (old ++ take n xs) ≡ 32 + n
+    front = length-append old (take n xs) ∙ ap₂ (λ (a b : ℕ). a + b) lo short
+
+    stored : head ≡ (old ++ take n xs) ++ drop (length (old ++ take n xs)) zeros
+    stored =
+        let z : 0 + length old ≡ 32 = omega arith in
+        e
+        ∙ ap (λ (k : ℕ). sets (sets zeros 0 old) k (take n xs)) (sym z)
+        ∙ sym (sets-append zeros 0 old (take n xs))
+        ∙ sets-front (old ++ take n xs) zeros (omega (arith, front))
+
+    long : length ((old ++ take n xs) ++ drop (length (old ++ take n xs)) zeros) ≡ 64
+    long =
+        omega (
+          arith,
+          length-append (old ++ take n xs) (drop (length (old ++ take n xs)) zeros),
+          length-drop (length (old ++ take n xs)) zeros,
+          front,
+        )
+
+-- the last window, stored over 32 zeros
+module _ (head xs window zeros : List ℤ) (lz : length zeros ≡ 32) where
+  pub last-short : length xs < 32 → length head ≡ 64 → window ≡ sets zeros 0 (take (length xs + 32 - length xs) (drop (length xs) head)) → window ≡ lastWindow head xs
+  last-short h lh e =
+      let k : length xs + 32 - length xs ≡ 32 = omega arith in
+      let l : length (take (length xs + 32 - length xs) (drop (length xs) head)) ≡ length zeros =
+      length-take-le (length xs + 32 - length xs) (drop (length xs) head) (omega (arith, length-drop (length xs) head)) ∙ omega arith in
+      rw (lt-ltb (length xs) 32 h) (e ∙ sets-whole (take (length xs + 32 - length xs) (drop (length xs) head)) zeros l ∙ ap (λ (m : ℕ). take m (drop (length xs) head)) k)
+
+  pub last-long : 32 ≤ length xs → window ≡ sets zeros 0 (take (length xs - (length xs - 32)) (drop (length xs - 32) xs)) → window ≡ lastWindow head xs
+  last-long h e =
+      let l : length (drop (length xs - 32) xs) ≡ length zeros = omega (arith, length-drop (length xs - 32) xs) in
+      let t : take (length xs - (length xs - 32)) (drop (length xs - 32) xs) ≡ drop (length xs - 32) xs =
+      take-all (length xs - (length xs - 32)) (drop (length xs - 32) xs) (omega arith) in
+      rw (le-ltb (length xs) 32 h) (e ∙ ap (sets zeros 0) t ∙ sets-whole (drop (length xs - 32) xs) zeros l)
+
+-- ---- a block that is accepted
+
+pub record Accepted (s : Receiver) (xs : List ℤ) (lent : List ℕ) : Type 0 where
+  pub range : inRange s ≡ true
+  pub long : length (s .window) ≡ 32
+  pub samples : areSamples xs ≡ true
+  pub room : placesFor (length xs) ≤ length lent
+
+-- its head: the window, with the first n samples behind it
+pub record Head (s : Receiver) (xs : List ℤ) (n : ℕ) (head : List ℤ) : Type 0 where
+  pub cut : n ≡ min (length xs) 31
+  pub whole : take (32 + n) head ≡ s .window ++ take n xs
+
+module _ {s : Receiver} {xs : List ℤ} {lent : List ℕ} {n : ℕ} {head : List ℤ} (a : Accepted s xs lent) (h : Head s xs n head) where
+  -- the part of the head that is scanned
+  abbrev source : List ℤ
+  source = take (32 + n - 1) (drop 1 head)
+
+  source-is : source ≡ drop 1 (s .window) ++ take n xs
+  source-is =
+      let e : 32 + n - 1 ≡ 31 + n = omega arith in
+      let f : 1 + (31 + n) ≡ 32 + n = omega arith in
+      ap (λ (k : ℕ). take k (drop 1 head)) e
+      ∙ sym (drop-take 1 (31 + n) head)
+      ∙ ap (λ (k : ℕ). drop 1 (take k head)) f
+      ∙ ap (drop 1) (h .whole)
+      ∙ drop-append-le 1 (s .window) (take n xs) (rw (a .long) (omega arith))
+
+  pub source-samples : areSamples source ≡ true
+  source-samples =
+      ap areSamples source-is
+      ∙ samples-append (drop 1 (s .window)) (take n xs)
+      ∙ and-intro (samples-drop 1 (s .window) (in-range s (a .range) .window)) (samples-take n xs (a .samples))
+
+  last-is : lastWindow head xs ≡ stateAfter s xs .window
+  last-is = go (decLt (length xs) 32) ∙ sym (window-after s xs (a .long))
+    where
+      go : Dec (length xs < 32) → lastWindow head xs ≡ drop (length xs) (s .window ++ xs)
+      go (yes l) =
+          let e : n ≡ length xs = omega (arith, h .cut) in
+          let f : 32 + n ≡ length xs + 32 = omega arith in
+          rw (lt-ltb (length xs) 32 l)
+          (sym (drop-take (length xs) 32 head)
+          ∙ ap (λ (k : ℕ). drop (length xs) (take k head)) (sym f)
+          ∙ ap (drop (length xs)) (h .whole ∙ ap (λ (l : List ℤ). s .window ++ l) (take-all n xs (omega arith))))
+      go (no g) =
+          let l : 32 ≤ length xs = omega arith in
+          let e : length xs ≡ length (s .window) + (length xs - 32) = omega (arith, a .long) in
+          rw (le-ltb (length xs) 32 l)
+          (sym (ap (λ (k : ℕ). drop k (s .window ++ xs)) e ∙ drop-append-add (s .window) xs (length xs - 32)))
+
+  -- ---- by the decisions that the code makes
+
+  module _ (decide : List ℤ → Decision) (same : decide ≡ decisionOf (tonesOf (s .band))) where
+    abbrev early : List Decision
+    early = decisions decide source
+
+    abbrev late : List Decision
+    late = decisions decide xs
+
+    abbrev between : Control
+    between = follow (controlOf s) early
+
+    seam : decisionsOver s xs ≡ early ++ late
+    seam =
+        ap (λ (f : List ℤ → Decision). decisions f (drop 1 (s .window) ++ xs)) (sym same)
+        ∙ decisions-seam decide (drop 1 (s .window)) xs n (h .cut)
+        ∙ ap (λ (l : List ℤ). decisions decide l ++ late) (sym source-is)
+
+    whole-control : controlOf (stateAfter s xs) ≡ follow between late
+    whole-control = by-windows s xs (a .long) .control ∙ ap (follow (controlOf s)) seam ∙ follow-append (controlOf s) early late
+
+    whole-events : eventsAfter s xs ≡ reports (controlOf s) early ++ reports between late
+    whole-events = by-windows s xs (a .long) .events ∙ ap (reports (controlOf s)) seam ∙ reports-append (controlOf s) early late
+
+    whole-count : length (eventsAfter s xs) ≡ length (reports (controlOf s) early) + length (reports between late)
+    whole-count = ap length whole-events ∙ length-append (reports (controlOf s) early) (reports between late)
+
+    whole-room : length (eventsAfter s xs) ≤ length lent
+    whole-room = omega (arith, events-few s xs (a .range), a .room)
+
+    abbrev first : Progress
+    first = record { run = s .run; stage = s .stage; count = 0 }
+
+    pub early-room : first .count + length (reports (controlIn first) early) ≤ length lent
+    early-room = omega (arith, whole-count, whole-room)
+
+    module _ (p : Progress) (ep : p ≡ progressed first early) (events : List ℕ) (ee : events ≡ sets lent 0 (reports (controlIn first) early)) where
+      p-control : controlIn p ≡ between
+      p-control = ap controlIn ep
+
+      p-count : p .count ≡ length (reports (controlOf s) early)
+      p-count = ap (λ (u : Progress). u .count) ep ∙ zero-add (length (reports (controlOf s) early))
+
+      pub late-control : isControl (controlIn p) ≡ true
+      late-control = ap isControl p-control ∙ follow-kept (controlOf s) early (in-range s (a .range) .control)
+
+      pub late-room : p .count + length (reports (controlIn p) late) ≤ length events
+      late-room =
+          omega (
+            arith,
+            p-count,
+            ap (λ (c : Control). length (reports c late)) p-control,
+            whole-count,
+            whole-room,
+            ap length ee,
+            length-sets lent 0 (reports (controlOf s) early),
+          )
+
+      module _ (q : Progress) (eq : q ≡ progressed p late) (events′ : List ℕ) (ee′ : events′ ≡ sets events (p .count) (reports (controlIn p) late))
+          (window : List ℤ) (ew : window ≡ lastWindow head xs) where
+        q-control : controlIn q ≡ controlOf (stateAfter s xs)
+        q-control = ap controlIn eq ∙ ap (λ (c : Control). follow c late) p-control ∙ sym whole-control
+
+        q-count : q .count ≡ length (eventsAfter s xs)
+        q-count =
+            ap (λ (u : Progress). u .count) eq
+            ∙ ap₂ (λ (k m : ℕ). k + m) p-count (ap (λ (c : Control). length (reports c late)) p-control)
+            ∙ sym whole-count
+
+        stored : events′ ≡ eventsAfter s xs ++ drop (length (eventsAfter s xs)) lent
+        stored =
+            ee′
+            ∙ ap₂ (λ (l : List ℕ) (k : ℕ). sets l k (reports (controlIn p) late)) ee (p-count ∙ sym (zero-add (length (reports (controlOf s) early))))
+            ∙ ap (λ (c : Control). sets (sets lent 0 (reports (controlOf s) early)) (0 + length (reports (controlOf s) early)) (reports c late)) p-control
+            ∙ sym (sets-append lent 0 (reports (controlOf s) early) (reports between late))
+            ∙ ap (sets lent 0) (sym whole-events)
+            ∙ sets-front (eventsAfter s xs) lent whole-room
+
+        pub block-read : outcome (record { number = 0; count = q .count }) (record { band = s .band; window = window; run = q .run; stage = q .stage }) events′
+            ≡ accepted (stateAfter s xs) (eventsAfter s xs) lent
+        block-read i =
+            record {
+              number = 0;
+              count = q-count i;
+              state =
+                  record { band = sym (band-after s xs) i; window = (ew ∙ last-is) i; run = q-control i .run; stage = q-control i .stage };
+              lent = stored i;
+            }

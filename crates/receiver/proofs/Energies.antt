@@ -1,0 +1,78 @@
+-- Laws of the energies: by lists of weights, and as natural numbers.
+-- Assumes nothing.
+use mathlib.Core.Path.{_≡_, refl, sym, ap, ap₂, _∙_}
+use mathlib.Core.Bool.{cond}
+use mathlib.Core.List.{List}
+use Prim.Native.Nat.{ℕ, _+_, _*_, _≤_, _<_, max}
+use native.Mathlib.Decide.{decLt}
+use native.Mathlib.Nat.{zero-add, add-comm}
+use native.Mathlib.Omega.{arith}
+use borrow.Author.Tests.{lt-ltb, le-ltb}
+use lib.Dec.{ltb, leb}
+use lib.IntN.{ℤ, pos, negsuc, natAbs, _+ℤ_, _*ℤ_}
+use lib.ListN.{length, getD}
+use Rattle.integers.specs.Sums.{dot, sumTo}
+use Rattle.integers.proofs.Sums.{sumTo-same, sumTo-dot, products}
+use Rattle.sine.specs.Sine.{S, C}
+use Rattle.sine.specs.Wave.{wave}
+use Rattle.sine.proofs.Wave.{length-wave, wave-at}
+use Rattle.tones.specs.declared.Tones.{Tones}
+use Rattle.receiver.specs.declared.Decision.{Decision}
+use Rattle.receiver.specs.Energy.{inPhase, quadrature, energy, energyℕ, level, larger, decided, decisionOf, energyBy, decisionBy}
+
+-- ---- by lists of weights
+
+-- a sum against a tone from the phase p on is the dot product with its wave
+sum-wave : (f : ℕ → ℤ) (window : List ℤ) (t p : ℕ) → ((j : ℕ) → S (p + j * t) ≡ f (j * t))
+    → sumTo 32 (λ j. getD window j (pos 0) *ℤ f (j * t)) ≡ dot window (wave 32 t p)
+sum-wave f window t p e =
+    sumTo-same 32 (λ j. getD window j (pos 0) *ℤ f (j * t)) (products window (wave 32 t p))
+    (λ j h. ap (λ (y : ℤ). getD window j (pos 0) *ℤ y) (sym (wave-at 32 t p j h ∙ e j)))
+    ∙ ap (λ (n : ℕ). sumTo n (products window (wave 32 t p))) (sym (length-wave 32 t p))
+    ∙ sumTo-dot window (wave 32 t p)
+
+pub in-phase-dot : (window : List ℤ) (t : ℕ) → inPhase window t ≡ dot window (wave 32 t 480)
+in-phase-dot window t = sum-wave C window t 480 (λ j. ap S (add-comm 480 (j * t)))
+
+pub quadrature-dot : (window : List ℤ) (t : ℕ) → quadrature window t ≡ dot window (wave 32 t 0)
+quadrature-dot window t = sum-wave S window t 0 (λ j. ap S (zero-add (j * t)))
+
+energy-by : (window : List ℤ) (t : ℕ) → energyBy (wave 32 t 480) (wave 32 t 0) window ≡ energy window t
+unfolding energy
+energy-by window t = rw (in-phase-dot window t, quadrature-dot window t)
+
+pub decision-by : (t : Tones) → decisionBy (wave 32 (t .space) 480) (wave 32 (t .space) 0) (wave 32 (t .mark) 480) (wave 32 (t .mark) 0) ≡ decisionOf t
+unfolding decisionOf
+decision-by t i window = decided (energy-by window (t .space) i) (energy-by window (t .mark) i)
+
+-- ---- as natural numbers
+
+square : (z : ℤ) → z *ℤ z ≡ pos (natAbs z * natAbs z)
+square (pos n) = refl
+square (negsuc n) = refl
+
+pub energy-ℕ : (window : List ℤ) (t : ℕ) → energy window t ≡ pos (energyℕ window t)
+unfolding energy energyℕ
+energy-ℕ window t = ap₂ (λ (a b : ℤ). a +ℤ b) (square (inPhase window t)) (square (quadrature window t))
+
+decided-ℕ : (space mark : ℕ) → decided (pos space) (pos mark) ≡ record { good = leb level (max space mark); space = ltb mark space }
+decided-ℕ space mark = go (decLt space mark)
+  where
+    go : Dec (space < mark) → decided (pos space) (pos mark) ≡ record { good = leb level (max space mark); space = ltb mark space }
+    go (yes h) = let e : max space mark ≡ mark = omega arith in rw (lt-ltb space mark h, e)
+    go (no f) =
+        let h : mark ≤ space = omega arith in
+        let e : max space mark ≡ space = omega arith in
+        rw (le-ltb space mark h, e)
+
+-- the decision by the orders of natural numbers
+pub decision-ℕ : (t : Tones) (window : List ℤ)
+    → decisionOf t window
+    ≡ record {
+      good = leb level (max (energyℕ window (t .space)) (energyℕ window (t .mark)));
+      space = ltb (energyℕ window (t .mark)) (energyℕ window (t .space));
+    }
+unfolding decisionOf
+decision-ℕ t window =
+    ap₂ (λ (a b : ℤ). decided a b) (energy-ℕ window (t .space)) (energy-ℕ window (t .mark))
+    ∙ decided-ℕ (energyℕ window (t .space)) (energyℕ window (t .mark))

@@ -1,0 +1,10 @@
+pub mod Energies
+pub mod Correlation
+pub mod Rules
+pub mod Ranges
+pub mod Counting
+pub mod Windows
+pub mod Scanning
+pub mod Blocks
+pub mod Calls
+pub mod Lists

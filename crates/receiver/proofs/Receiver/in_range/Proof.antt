@@ -1,0 +1,41 @@
+-- `receiver::Receiver::in_range` meets its contract.
+-- Assumes nothing.
+use mathlib.Core.Path.{_≡_, sym, _∙_}
+use mathlib.Core.Bool.{true}
+use borrow.Author.Needs.{needs}
+use borrow.Author.Tests.{not-true, not-false}
+use Rattle.tones.specs.Bands.{isBand}
+use Rattle.receiver.proofs.Ranges.{range-band, range-window, range-control}
+use Rattle.receiver.proofs.Receiver.in_range.Statement.{statement}
+use Rattle.receiver.proofs.Receiver.in_range.Tie as tie
+
+is-band-requires : tie.Need-is-band-requires
+is-band-requires c κs = tt
+
+slice-aggregate-are-samples : tie.Need-slice-aggregate-are-samples
+slice-aggregate-are-samples c = search needs
+
+are-samples-requires : tie.Need-are-samples-requires
+are-samples-requires c κs = tt
+
+is-control-requires : tie.Need-is-control-requires
+is-control-requires c κs = tt
+
+-- past the first test
+banded : (c : tie.Else1) → isBand (c .before .before .before .args .self .band) ≡ true
+banded c = sym (c .before .is-band .ensures) ∙ not-false (c .before .is-band .result) (c .if1 .left)
+
+returns : tie.Need-returns
+returns c = sym (range-band _ (sym (c .before .is-band .ensures) ∙ not-true (c .before .is-band .result) (c .if1 .taken)))
+
+returns-2 : tie.Need-returns-2
+returns-2 c =
+    sym (range-window _ (banded (c .before .before .before)) (sym (c .before .are-samples .ensures) ∙ not-true (c .before .are-samples .result) (c .if2 .taken)))
+
+returns-3 : tie.Need-returns-3
+returns-3 c =
+    c .is-control .ensures
+    ∙ sym (range-control _ (banded (c .before .before .before .before)) (sym (c .before .before .are-samples .ensures) ∙ not-false (c .before .before .are-samples .result) (c .before .if2 .left)))
+
+pub in-range-spec : {M : Type 1} → statement M
+in-range-spec = tie.close (tie.spec is-band-requires slice-aggregate-are-samples are-samples-requires is-control-requires returns returns-2 returns-3)

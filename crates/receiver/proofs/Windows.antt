@@ -1,0 +1,137 @@
+-- The step rule by windows: reading samples is following the decisions at the windows that they complete. From that, how two lists
+-- of samples join, and how the windows of a block fall into those that reach back behind it and its own.
+-- Assumes nothing.
+use mathlib.Core.Path.{_≡_, refl, sym, ap, _∙_}
+use mathlib.Core.List.{List, [], _∷_, _++_, append-assoc, append-nil}
+use Prim.Native.Nat.{ℕ, suc, _+_, _<_, _≤_, min}
+use native.Mathlib.Decide.{decLt}
+use native.Mathlib.Omega.{arith}
+use borrow.Author.Tests.{lt-ltb, le-ltb}
+use lib.IntN.{ℤ}
+use lib.ListN.{length, take, drop, length-append, length-drop, take-append-drop}
+use lib.Seq.{take-all, take-at, append-snoc, drop-append-le, drop-drop, take-append-le, length-take-le}
+use Rattle.tones.specs.Bands.{tonesOf}
+use Rattle.receiver.specs.declared.Decision.{Decision}
+use Rattle.receiver.specs.declared.Receiver.{Receiver}
+use Rattle.receiver.specs.Energy.{decisionOf}
+use Rattle.receiver.specs.Step.{Control, controlAfter, reported, controlOf, entered, stepOf, stateAfter, eventsAfter}
+use Rattle.receiver.specs.Windows.{decisions, follow, reports}
+
+-- ---- the decisions of a list
+
+module _ (decide : List ℤ → Decision) where
+  pub decisions-none : (zs : List ℤ) → length zs < 32 → decisions decide zs ≡ []
+  unfolding decisions
+  decisions-none [] h = refl
+  decisions-none (z ∷ zs) h = rw (lt-ltb (length zs) 31 (omega arith))
+
+  pub decisions-more : (zs : List ℤ) → 32 ≤ length zs → decisions decide zs ≡ decide (take 32 zs) ∷ decisions decide (drop 1 zs)
+  unfolding decisions
+  decisions-more [] h = absurd (omega arith)
+  decisions-more (z ∷ zs) h = rw (le-ltb (length zs) 31 (omega arith))
+
+  -- a list that is cut twice, 31 samples apart
+  decisions-cut : (xs ys zs : List ℤ) → length ys ≡ 31 → decisions decide (xs ++ ys ++ zs) ≡ decisions decide (xs ++ ys) ++ decisions decide (ys ++ zs)
+  decisions-cut [] ys zs e = rw (decisions-none ys (omega arith))
+  decisions-cut (x ∷ xs) ys zs e =
+      let l : length (xs ++ ys) ≡ length xs + 31 = length-append xs ys ∙ ap (λ (n : ℕ). length xs + n) e in
+      decisions-more (x ∷ (xs ++ ys ++ zs)) (omega (arith, length-append (xs ++ ys) zs))
+      ∙ ap (λ (w : List ℤ). decide w ∷ decisions decide (xs ++ ys ++ zs)) (take-append-le 32 (x ∷ (xs ++ ys)) zs (omega arith))
+      ∙ ap (λ (ds : List Decision). decide (take 32 (x ∷ (xs ++ ys))) ∷ ds) (decisions-cut xs ys zs e)
+      ∙ ap (λ (ds : List Decision). ds ++ decisions decide (ys ++ zs)) (sym (decisions-more (x ∷ (xs ++ ys)) (omega arith)))
+
+  -- the windows that reach back into `old`, and those of the block xs
+  pub decisions-seam : (old xs : List ℤ) (n : ℕ) → n ≡ min (length xs) 31
+      → decisions decide (old ++ xs) ≡ decisions decide (old ++ take n xs) ++ decisions decide xs
+  decisions-seam old xs n e = go (decLt (length xs) 31)
+    where
+      go : Dec (length xs < 31) → decisions decide (old ++ xs) ≡ decisions decide (old ++ take n xs) ++ decisions decide xs
+      go (yes h) = rw (take-all n xs (omega arith), decisions-none xs (omega arith)) (sym (append-nil (decisions decide (old ++ xs))))
+      go (no f) =
+          ap (λ (l : List ℤ). decisions decide (old ++ l)) (sym (take-append-drop n xs))
+          ∙ ap (decisions decide) (sym (append-assoc old (take n xs) (drop n xs)))
+          ∙ decisions-cut old (take n xs) (drop n xs) (length-take-le n xs (omega arith) ∙ omega arith)
+          ∙ ap (λ (l : List ℤ). decisions decide (old ++ take n xs) ++ decisions decide l) (take-append-drop n xs)
+
+  -- a sample enters a window
+  decisions-entered : (window : List ℤ) (x : ℤ) (xs : List ℤ) → length window ≡ 32
+      → decisions decide (drop 1 window ++ x ∷ xs) ≡ decide (entered window x) ∷ decisions decide (drop 1 (entered window x) ++ xs)
+  decisions-entered window x xs e =
+      let l : length (entered window x) ≡ 32 = omega (arith, length-append (drop 1 window) (x ∷ []), length-drop 1 window) in
+      ap (decisions decide) (sym (append-snoc (drop 1 window) x xs))
+      ∙ decisions-more (entered window x ++ xs) (omega (arith, length-append (entered window x) xs))
+      ∙ ap (λ (w : List ℤ). decide w ∷ decisions decide (drop 1 (entered window x ++ xs))) (take-at (entered window x) xs 32 l)
+      ∙ ap (λ (w : List ℤ). decide (entered window x) ∷ decisions decide w) (drop-append-le 1 (entered window x) xs (omega arith))
+
+-- ---- decisions one behind the other
+
+pub follow-append : (c : Control) (ds es : List Decision) → follow c (ds ++ es) ≡ follow (follow c ds) es
+unfolding follow
+follow-append c [] es = refl
+follow-append c (d ∷ ds) es = follow-append (controlAfter c d) ds es
+
+pub reports-append : (c : Control) (ds es : List Decision) → reports c (ds ++ es) ≡ reports c ds ++ reports (follow c ds) es
+unfolding follow reports
+reports-append c [] es = refl
+reports-append c (d ∷ ds) es =
+    ap (λ (l : List ℕ). reported c d ++ l) (reports-append (controlAfter c d) ds es)
+    ∙ sym (append-assoc (reported c d) (reports (controlAfter c d) ds) (reports (follow (controlAfter c d) ds) es))
+
+-- ---- the step rule
+
+-- the decisions at the windows that the samples xs complete
+abbrev pub decisionsOver : Receiver → List ℤ → List Decision
+decisionsOver s xs = decisions (decisionOf (tonesOf (s .band))) (drop 1 (s .window) ++ xs)
+
+pub record ByWindows (s : Receiver) (xs : List ℤ) : Type 0 where
+  pub control : controlOf (stateAfter s xs) ≡ follow (controlOf s) (decisionsOver s xs)
+  pub events : eventsAfter s xs ≡ reports (controlOf s) (decisionsOver s xs)
+
+pub by-windows : (s : Receiver) (xs : List ℤ) → length (s .window) ≡ 32 → ByWindows s xs
+unfolding stepOf stateAfter eventsAfter follow reports
+by-windows s [] e =
+    let none : decisionsOver s [] ≡ [] =
+    ap (decisions (decisionOf (tonesOf (s .band)))) (append-nil (drop 1 (s .window)))
+    ∙ decisions-none (decisionOf (tonesOf (s .band))) (drop 1 (s .window)) (omega (arith, length-drop 1 (s .window))) in
+    record { control = ap (follow (controlOf s)) (sym none); events = ap (reports (controlOf s)) (sym none) }
+by-windows s (x ∷ xs) e =
+    let l : length (entered (s .window) x) ≡ 32 = omega (arith, length-append (drop 1 (s .window)) (x ∷ []), length-drop 1 (s .window)) in
+    let more = decisions-entered (decisionOf (tonesOf (s .band))) (s .window) x xs e in
+    let rest = by-windows (stepOf s x) xs l in
+    record {
+      control = rest .control ∙ ap (follow (controlOf s)) (sym more);
+      events =
+          ap (λ (l : List ℕ). reported (controlOf s) (decisionOf (tonesOf (s .band)) (entered (s .window) x)) ++ l) (rest .events)
+          ∙ ap (reports (controlOf s)) (sym more);
+    }
+
+pub band-after : (s : Receiver) (xs : List ℤ) → stateAfter s xs .band ≡ s .band
+unfolding stateAfter stepOf
+band-after s [] = refl
+band-after s (x ∷ xs) = band-after (stepOf s x) xs
+
+-- the window after the samples is the end of the old one and the samples
+pub window-after : (s : Receiver) (xs : List ℤ) → length (s .window) ≡ 32 → stateAfter s xs .window ≡ drop (length xs) (s .window ++ xs)
+unfolding stateAfter stepOf
+window-after s [] e = sym (append-nil (s .window))
+window-after s (x ∷ xs) e =
+    let one : 1 + length xs ≡ suc (length xs) = omega arith in
+    window-after (stepOf s x) xs (omega (arith, length-append (drop 1 (s .window)) (x ∷ []), length-drop 1 (s .window)))
+    ∙ ap (drop (length xs)) (append-snoc (drop 1 (s .window)) x xs ∙ sym (drop-append-le 1 (s .window) (x ∷ xs) (omega arith)))
+    ∙ drop-drop (length xs) 1 (s .window ++ x ∷ xs)
+    ∙ ap (λ (n : ℕ). drop n (s .window ++ x ∷ xs)) one
+
+-- ---- samples one behind the other
+
+pub state-append : (s : Receiver) (xs ys : List ℤ) → stateAfter s (xs ++ ys) ≡ stateAfter (stateAfter s xs) ys
+unfolding stateAfter
+state-append s [] ys = refl
+state-append s (x ∷ xs) ys = state-append (stepOf s x) xs ys
+
+pub events-append : (s : Receiver) (xs ys : List ℤ) → eventsAfter s (xs ++ ys) ≡ eventsAfter s xs ++ eventsAfter (stateAfter s xs) ys
+unfolding stateAfter eventsAfter
+events-append s [] ys = refl
+events-append s (x ∷ xs) ys =
+    let es : List ℕ = reported (controlOf s) (decisionOf (tonesOf (s .band)) (entered (s .window) x)) in
+    ap (λ (l : List ℕ). es ++ l) (events-append (stepOf s x) xs ys)
+    ∙ sym (append-assoc es (eventsAfter (stepOf s x) xs) (eventsAfter (stateAfter (stepOf s x) xs) ys))

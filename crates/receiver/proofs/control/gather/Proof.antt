@@ -1,0 +1,26 @@
+-- `receiver::control::gather` meets its contract.
+-- Assumes nothing.
+use mathlib.Core.Path.{_≡_}
+use Prim.Native.Nat.{_-_, _^_, _≤_}
+use native.Mathlib.Omega.{arith}
+use lib.Pow.{pow-mono}
+use Rattle.receiver.proofs.control.gather.Statement.{statement}
+use Rattle.receiver.proofs.control.gather.Tie as tie
+
+weight-requires : tie.Need-weight-requires
+weight-requires c κs = (c .before .pre .0, c .before .pre .1)
+
+add-result : tie.Need-add-result
+add-result c =
+    let slot = c .before .before .args .slot in
+    let most : 2 ^ (slot - 1) ≤ 128 = pow-mono {i = slot - 1} {j = 7} (omega arith) in
+    omega (arith, c .weight .ensures)
+
+returns : tie.Need-returns
+returns c = rw (c .if1 .taken)
+
+returns-2 : tie.Need-returns-2
+returns-2 c = rw (c .weight .ensures, c .before .if1 .left)
+
+pub gather-spec : {M : Type 1} → statement M
+gather-spec = tie.close (tie.spec weight-requires add-result returns returns-2)

@@ -1,0 +1,67 @@
+-- The receiver's calls: document 01, "Reader, step by step" and "Refused calls". A number is given if and only if its condition is
+-- the first that holds.
+-- Assumes nothing.
+use mathlib.Core.Bool.{Bool, true, cond, not, _&&_}
+use mathlib.Core.List.{List}
+use Prim.Native.Nat.{ℕ, _+_, _-_, _^_, _/_}
+use lib.Dec.{ltb, leb, eqb}
+use lib.IntN.{ℤ, pos}
+use lib.ListN.{length, replicate}
+use Rattle.calls.specs.Outcome.{Outcome, refused, accepted}
+use Rattle.tones.specs.Bands.{isBand}
+use Rattle.tones.specs.Samples.{areSamples}
+use Rattle.receiver.specs.declared.Stage.{Stage}
+use Rattle.receiver.specs.declared.Stage.the-variants.{Searching, Waiting}
+use Rattle.receiver.specs.declared.Receiver.{Receiver}
+use Rattle.receiver.specs.declared.Opened.{Opened}
+use Rattle.receiver.specs.Step.{Control, controlOf, stateAfter, eventsAfter}
+
+-- ---- opening
+
+-- a fresh receiver has a window of zeros and run 0, and searches
+abbrev pub fresh : ℕ → Receiver
+fresh band = record { band = band; window = replicate 32 (pos 0); run = 0; stage = Searching }
+
+-- the fresh state of the band, or 1 and the fresh state of band 1
+unfoldable pub openOf : ℕ → Opened
+openOf band = cond (isBand band) (record { number = 0; receiver = fresh band }) (record { number = 1; receiver = fresh 1 })
+
+-- ---- the ranges of a state
+
+-- at slot 0 the wait is 1 to 16, otherwise 1 to 32
+abbrev pub isWait : ℕ → ℕ → Bool
+isWait wait slot = leb 1 wait && leb wait (cond (eqb slot 0) 16 32)
+
+-- a slot is 0 to 9, and the byte gathered before it is 0 for slots below 2 and below 2^(slot - 1) above
+unfoldable pub isSlot : ℕ → ℕ → Bool
+isSlot slot byte = leb slot 9 && cond (ltb slot 2) (eqb byte 0) (ltb byte (2 ^ (slot - 1)))
+
+unfoldable pub isStage : Stage → Bool
+isStage Searching = true
+isStage (Waiting wait slot byte) = isWait wait slot && isSlot slot byte
+
+-- a run is 0 to 32
+unfoldable pub isControl : Control → Bool
+isControl c = leb (c .run) 32 && isStage (c .stage)
+
+unfoldable pub inRange : Receiver → Bool
+inRange s = isBand (s .band) && (areSamples (s .window) && isControl (controlOf s))
+
+-- ---- a block
+
+-- the places that a block of n samples needs
+abbrev pub placesFor : ℕ → ℕ
+placesFor n = n / 48 + 1
+
+-- 2, 3, 5, 4, or the events of the samples
+unfoldable pub blockOf : Receiver → List ℤ → List ℕ → Outcome Receiver ℕ
+blockOf s xs lent =
+    cond (not (inRange s))
+    (refused 2 s lent)
+    (cond (ltb 16384 (length xs))
+    (refused 3 s lent)
+    (cond (not (areSamples xs))
+    (refused 5 s lent)
+    (cond (ltb (length lent) (placesFor (length xs)))
+    (refused 4 s lent)
+    (accepted (stateAfter s xs) (eventsAfter s xs) lent))))

@@ -1,0 +1,66 @@
+-- The energies of the two tones in a window, and what they decide: document 01, "Reader, step by step", rules 2 and 3.
+-- Assumes nothing.
+use mathlib.Core.Path.{_≡_}
+use mathlib.Core.Bool.{true, cond}
+use mathlib.Core.List.{List}
+use Prim.Native.Nat.{ℕ, _+_, _*_}
+use lib.IntN.{ℤ, pos, natAbs, _+ℤ_, _*ℤ_}
+use lib.ListN.{length, getD}
+use lib.Signed.{ltZ, leZ}
+use Rattle.integers.specs.Sums.{dot, sumTo, Bounded}
+use Rattle.sine.specs.Sine.{S, C}
+use Rattle.tones.specs.declared.Tones.{Tones}
+use Rattle.tones.specs.Samples.{areSamples}
+use Rattle.receiver.specs.declared.Decision.{Decision}
+
+-- ---- rule 2, for the tone with step t
+
+-- I is the sum over j = 0..31 of window[j] times C(j times t); j = 0 is the oldest
+abbrev pub inPhase : List ℤ → ℕ → ℤ
+inPhase window t = sumTo 32 (λ j. getD window j (pos 0) *ℤ C (j * t))
+
+-- Q is the same with S
+abbrev pub quadrature : List ℤ → ℕ → ℤ
+quadrature window t = sumTo 32 (λ j. getD window j (pos 0) *ℤ S (j * t))
+
+-- the energy is I times I + Q times Q
+unfoldable pub energy : List ℤ → ℕ → ℤ
+energy window t = inPhase window t *ℤ inPhase window t +ℤ quadrature window t *ℤ quadrature window t
+
+-- the same number as a natural one
+unfoldable pub energyℕ : List ℤ → ℕ → ℕ
+energyℕ window t =
+    natAbs (inPhase window t) * natAbs (inPhase window t) + natAbs (quadrature window t) * natAbs (quadrature window t)
+
+-- ---- rule 3, and the comparison of rules 4 and 5
+
+-- the least energy of a good level
+abbrev pub level : ℕ
+level = 32400000000000000
+
+abbrev pub larger : ℤ → ℤ → ℤ
+larger a b = cond (ltZ a b) b a
+
+-- from the energies of space and mark: the level is good if the larger is at least `level`; space is above mark
+abbrev pub decided : ℤ → ℤ → Decision
+decided space mark = record { good = leZ (pos level) (larger space mark); space = ltZ mark space }
+
+unfoldable pub decisionOf : Tones → List ℤ → Decision
+decisionOf t window = decided (energy window (t .space)) (energy window (t .mark))
+
+-- ---- the same from lists of weights, as the code has it: cosines and sines of the tone of space, and of the tone of mark
+
+-- what the code asks of a window and of a list of weights, so that no sum leaves an i32
+pub record IsWindow (xs : List ℤ) : Type 0 where
+  pub long : length xs ≡ 32
+  pub samples : areSamples xs ≡ true
+
+pub record AreWeights (xs : List ℤ) : Type 0 where
+  pub long : length xs ≡ 32
+  pub small : Bounded 6000 xs
+
+abbrev pub energyBy : List ℤ → List ℤ → List ℤ → ℤ
+energyBy cos sin window = dot window cos *ℤ dot window cos +ℤ dot window sin *ℤ dot window sin
+
+abbrev pub decisionBy : List ℤ → List ℤ → List ℤ → List ℤ → List ℤ → Decision
+decisionBy c0 s0 c1 s1 window = decided (energyBy c0 s0 window) (energyBy c1 s1 window)

@@ -1,0 +1,44 @@
+-- Lists of block calls (document 01, "Whole recordings"), and demand 2 over them: the events are exactly those of the step rule.
+-- Assumes nothing.
+use mathlib.Core.Path.{_≡_}
+use mathlib.Core.Bool.{true}
+use mathlib.Core.List.{List, _++_}
+use Prim.Native.Nat.{ℕ, _≤_}
+use lib.IntN.{ℤ}
+use lib.ListN.{length}
+use Rattle.calls.specs.Outcome.{Outcome, isAccepted, front}
+use Rattle.calls.specs.Lists as lists
+use Rattle.receiver.specs.declared.Receiver.{Receiver}
+use Rattle.receiver.specs.Step.{stateAfter, eventsAfter}
+use Rattle.receiver.specs.Calls.{inRange, placesFor, blockOf}
+
+-- a call with what it is handed: the samples, and the lent list as it stands on entry
+pub record Call : Type 0 where
+  pub samples : List ℤ
+  pub lent : List ℕ
+
+-- the outcome of a call, as its contract has it
+abbrev pub callOf : Receiver → Call → Outcome Receiver ℕ
+callOf s c = blockOf s (c .samples) (c .lent)
+
+-- the accepted blocks, joined in order
+abbrev pub samplesRead : Receiver → List Call → List ℤ
+samplesRead = lists.joined callOf (λ o c. c .samples)
+
+-- the events of the accepted calls, as they stood on return, joined in order
+abbrev pub eventsRead : Receiver → List Call → List ℕ
+eventsRead = lists.joined callOf (λ o c. front o)
+
+-- However the samples are cut into blocks, and whatever refused calls stand between them, they are read as one list.
+pub record OneReading (s : Receiver) (calls : List Call) : Type 0 where
+  pub events : eventsRead s calls ≡ eventsAfter s (samplesRead s calls)
+  pub state : lists.stateAfter callOf s calls ≡ stateAfter s (samplesRead s calls)
+  -- a state in its ranges stays in them, and n samples bring at most n / 48 + 1 events
+  pub range : inRange s ≡ true → inRange (lists.stateAfter callOf s calls) ≡ true
+  pub few : inRange s ≡ true → length (eventsRead s calls) ≤ placesFor (length (samplesRead s calls))
+
+-- Two accepted blocks, one after the other, and the call that is handed both joined, which is accepted if it can be.
+pub record TwoBlocks (s : Receiver) (one two : Call) (lent : List ℕ) : Type 0 where
+  pub accepted : isAccepted (blockOf s (one .samples ++ two .samples) lent) ≡ true
+  pub state : blockOf s (one .samples ++ two .samples) lent .state ≡ callOf (callOf s one .state) two .state
+  pub events : front (blockOf s (one .samples ++ two .samples) lent) ≡ front (callOf s one) ++ front (callOf (callOf s one .state) two)
