@@ -1,7 +1,6 @@
 -- Laws of the energies: by lists of weights, and as natural numbers.
 -- Assumes nothing.
 use mathlib.Core.Path.{_≡_, refl, sym, ap, ap₂, _∙_}
-use mathlib.Core.Bool.{cond}
 use mathlib.Core.List.{List}
 use Prim.Native.Nat.{ℕ, _+_, _*_, _≤_, _<_, max}
 use native.Mathlib.Decide.{decLt}
@@ -10,15 +9,14 @@ use native.Mathlib.Omega.{arith}
 use borrow.Author.Tests.{lt-ltb, le-ltb}
 use lib.Dec.{ltb, leb}
 use lib.IntN.{ℤ, pos, negsuc, natAbs, _+ℤ_, _*ℤ_}
-use lib.ListN.{length, getD}
+use lib.ListN.{getD}
 use Rattle.integers.specs.Sums.{dot, sumTo}
 use Rattle.integers.proofs.Sums.{sumTo-same, sumTo-dot, products}
 use Rattle.sine.specs.Sine.{S, C}
 use Rattle.sine.specs.Wave.{wave}
 use Rattle.sine.proofs.Wave.{length-wave, wave-at}
 use Rattle.tones.specs.declared.Tones.{Tones}
-use Rattle.receiver.specs.declared.Decision.{Decision}
-use Rattle.receiver.specs.Energy.{inPhase, quadrature, energy, energyℕ, level, larger, decided, decisionOf, energyBy, decisionBy}
+use Rattle.receiver.specs.Energy.{inPhase, quadrature, energy, energyℕ, level, decided, decisionOf, energyBy, decisionBy}
 
 -- ---- by lists of weights
 

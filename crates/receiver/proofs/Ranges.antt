@@ -1,12 +1,12 @@
 -- What the range tests say, and that the step rule keeps the ranges.
 -- Assumes nothing.
-use mathlib.Core.Path.{_≡_, refl, sym, ap, _∙_}
+use mathlib.Core.Path.{_≡_, refl, ap, _∙_}
 use mathlib.Core.Bool.{Bool, true, false, not, cond, _&&_}
-use mathlib.Core.List.{List, [], _∷_, _++_}
+use mathlib.Core.List.{List, [], _∷_}
 use mathlib.Mathlib.Data.Bool.Basic.{and-elim-left, and-elim-right, and-intro}
-use Prim.Native.Nat.{ℕ, zero, suc, _+_, _-_, _*_, _^_, _<_, _≤_, min}
+use Prim.Native.Nat.{ℕ, suc, _+_, _-_, _*_, _^_, _<_, _≤_, min}
 use native.Mathlib.Omega.{arith}
-use borrow.Author.Tests.{lt-ltb, le-ltb, le-leb, lt-leb, ne-eqb, ltb-true, leb-true, eqb-true, eqb-false}
+use borrow.Author.Tests.{lt-ltb, le-ltb, le-leb, ne-eqb, ltb-true, leb-true, eqb-true, eqb-false}
 use lib.Dec.{ltb, leb, eqb}
 use lib.IntN.{ℤ}
 use lib.ListN.{drop}
@@ -19,7 +19,7 @@ use Rattle.receiver.specs.declared.Next.{Next}
 use Rattle.receiver.specs.declared.Stage.{Stage}
 use Rattle.receiver.specs.declared.Stage.the-variants.{Searching, Waiting}
 use Rattle.receiver.specs.declared.Receiver.{Receiver}
-use Rattle.receiver.specs.Step.{runAfter, gathered, taken, nextOf, Control, controlAfter, controlOf, decisionAt, entered, stepOf, stateAfter}
+use Rattle.receiver.specs.Step.{runAfter, gathered, taken, nextOf, Control, controlAfter, controlOf, decisionAt, stepOf, stateAfter}
 use Rattle.receiver.specs.Windows.{follow}
 use Rattle.receiver.specs.Calls.{isWait, isSlot, isStage, isControl, inRange}
 

@@ -4,7 +4,6 @@ use mathlib.Core.Path.{_≡_, refl, sym, ap, _∙_}
 use mathlib.Core.Bool.{true}
 use mathlib.Core.List.{List, [], _∷_, _++_}
 use Prim.Native.Nat.{ℕ, _+_, _-_, _<_, _≤_, zero-le}
-use native.Mathlib.Nat.{add-zero}
 use native.Mathlib.Omega.{arith}
 use lib.IntN.{ℤ}
 use lib.ListN.{length, take, drop, length-append, length-drop, length-take}
@@ -14,7 +13,6 @@ use Rattle.tones.specs.Samples.{areSamples}
 use Rattle.tones.proofs.Samples.{samples-take, samples-drop}
 use Rattle.receiver.specs.declared.Decision.{Decision}
 use Rattle.receiver.specs.declared.Next.{Next}
-use Rattle.receiver.specs.declared.Stage.{Stage}
 use Rattle.receiver.specs.declared.Progress.{Progress}
 use Rattle.receiver.specs.Energy.{IsWindow}
 use Rattle.receiver.specs.Step.{numbers, runAfter, nextOf, Control, controlAfter, reported}

@@ -1,5 +1,5 @@
-use mathlib.Core.Path.{_≡_, refl, sym, ap, _∙_}
-use mathlib.Core.Bool.{Bool, _&&_}
+use mathlib.Core.Path.{_≡_, refl, sym}
+use mathlib.Core.Bool.{_&&_}
 use Prim.Native.Nat.{_-_, _≤_, zero-le}
 use native.Mathlib.Omega.{arith}
 use borrow.Author.Needs.{needs, sfits-of}
@@ -7,7 +7,7 @@ use lib.IntN.{pos}
 use lib.ListN.{length, getD, drop}
 use mir.Syntax.{w16}
 use mir.Facts.{toZ-ofZ}
-use Rattle.tones.specs.Samples.{isSample, areSamples}
+use Rattle.tones.specs.Samples.{areSamples}
 use Rattle.tones.proofs.Samples.{tested-more, tested-all}
 use Rattle.tones.proofs.are_samples.Statement.{statement}
 use Rattle.tones.proofs.are_samples.Tie as tie

@@ -1,6 +1,6 @@
 -- `receiver::Receiver::open` meets its contract.
 -- Assumes nothing.
-use mathlib.Core.Path.{_≡_, sym, _∙_}
+use mathlib.Core.Path.{sym, _∙_}
 use Rattle.receiver.specs.Calls.{openOf}
 use Rattle.receiver.proofs.Receiver.open.Statement.{statement}
 use Rattle.receiver.proofs.Receiver.open.Tie as tie

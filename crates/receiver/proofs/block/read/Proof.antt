@@ -1,17 +1,14 @@
 -- `receiver::block::read` meets its contract: the two scans read the block.
 -- Assumes nothing.
-use mathlib.Core.Path.{_≡_, sym, ap, ap₂, _∙_}
+use mathlib.Core.Path.{_≡_, ap, _∙_}
 use mathlib.Core.List.{List}
-use native.Mathlib.Omega.{arith}
 use Prim.Native.Nat.{ℕ}
 use borrow.Author.Needs.{needs}
 use lib.IntN.{ℤ}
 use lib.ListN.{length}
 use Rattle.sine.specs.Wave.{wave}
 use Rattle.sine.proofs.Wave.{length-wave, wave-bound}
-use Rattle.tones.specs.declared.Tones.{Tones}
 use Rattle.tones.specs.Bands.{tonesOf}
-use Rattle.receiver.specs.declared.Decision.{Decision}
 use Rattle.receiver.specs.Energy.{AreWeights, decisionOf, decisionBy}
 use Rattle.receiver.proofs.Energies.{decision-by}
 use Rattle.receiver.proofs.Ranges.{in-range}

@@ -1,6 +1,5 @@
 -- `receiver::control::is_control` meets its contract.
 -- Assumes nothing.
-use mathlib.Core.Path.{_≡_}
 use borrow.Author.Tests.{le-leb, lt-leb}
 use Rattle.receiver.specs.Calls.{isControl}
 use Rattle.receiver.proofs.control.is_control.Statement.{statement}

@@ -1,6 +1,6 @@
 -- `receiver::control::is_stage` meets its contract.
 -- Assumes nothing.
-use mathlib.Core.Path.{_≡_, sym, ap, _∙_}
+use mathlib.Core.Path.{sym, _∙_}
 use borrow.Author.Needs.{needs}
 use Rattle.receiver.specs.Calls.{isStage}
 use Rattle.receiver.proofs.control.is_stage.Statement.{statement}

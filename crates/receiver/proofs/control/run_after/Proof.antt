@@ -1,7 +1,6 @@
 -- `receiver::control::run_after` meets its contract.
 -- Assumes nothing.
 use native.Mathlib.Omega.{arith}
-use borrow.Author.Needs.{needs}
 use Rattle.receiver.proofs.control.run_after.Statement.{statement}
 use Rattle.receiver.proofs.control.run_after.Tie as tie
 

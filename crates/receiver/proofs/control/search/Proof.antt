@@ -1,6 +1,6 @@
 -- `receiver::control::search` meets its contract, by the cases of the search.
 -- Assumes nothing.
-use mathlib.Core.Path.{_≡_, sym, _∙_}
+use mathlib.Core.Path.{sym, _∙_}
 use mathlib.Core.Logic.{⊎-elim}
 use Rattle.receiver.proofs.Rules.{search-found, search-short, search-mark}
 use Rattle.receiver.proofs.control.search.Statement.{statement}

@@ -1,6 +1,5 @@
 -- `receiver::control::weight` meets its contract: the weight of slot 8 is 128, so that no bit is lost.
 -- Assumes nothing.
-use mathlib.Core.Path.{_≡_}
 use Prim.Native.Nat.{_-_, _^_, _≤_}
 use native.Mathlib.Omega.{arith}
 use lib.Pow.{pow-mono}

@@ -1,6 +1,5 @@
 -- `receiver::energy::compare` meets its contract.
 -- Assumes nothing.
-use mathlib.Core.Path.{_≡_}
 use mathlib.Core.Logic.{⊎-elim}
 use mir.Facts.{toZ-ofZ}
 use Rattle.receiver.proofs.energy.compare.Statement.{statement}

@@ -1,6 +1,6 @@
 -- `receiver::energy::decide` meets its contract.
 -- Assumes nothing.
-use mathlib.Core.Path.{_≡_, ap₂, _∙_}
+use mathlib.Core.Path.{ap₂, _∙_}
 use borrow.Author.Needs.{sfits-of}
 use lib.IntN.{ℤ}
 use mir.Syntax.{w64}

@@ -1,8 +1,7 @@
 -- `receiver::energy::energy` meets its contract: each loop sums 32 products.
 -- Assumes nothing.
-use mathlib.Core.Path.{_≡_, ap₂, _∙_}
+use mathlib.Core.Path.{ap₂, _∙_}
 use Prim.Native.Nat.{_-_}
-use native.Mathlib.Omega.{arith}
 use borrow.Author.Needs.{needs, sfits-of}
 use lib.IntN.{ℤ, _+ℤ_, _*ℤ_}
 use mir.Syntax.{w32, w64}

@@ -1,11 +1,10 @@
 -- `transmitter::bits::put_bits` meets its contract: each turn sends one bit.
 -- Assumes nothing.
-use mathlib.Core.Path.{_≡_, ap, _∙_}
+use mathlib.Core.Path.{_≡_}
 use Prim.Native.Nat.{_+_, _*_, _-_, _≤_}
 use native.Mathlib.Omega.{arith}
 use borrow.Author.Needs.{needs}
 use lib.ListN.{length, drop, getD, drop-of-length-le}
-use Rattle.sine.proofs.Wave.{length-wave}
 use Rattle.transmitter.proofs.Progress.{Progress, progress-start, progress-bit, progress-end, bits-left}
 use Rattle.transmitter.proofs.bits.put_bits.Statement.{statement}
 use Rattle.transmitter.proofs.bits.put_bits.Tie as tie
