@@ -5,6 +5,9 @@ ghost use Rattle.calls.specs.Outcome.{outcome};
 ghost use Rattle.sine.specs.Sine.{S, C};
 ghost use Rattle.transmitter.specs.Calls.{openOf, idleOf, charactersOf};
 ghost use Rattle.exports.specs.Numbers.{answer, transmitter, opened};
+
+mod receiving;
+
 use transmitter::Sent;
 use transmitter::Transmitter;
 

@@ -1,0 +1,99 @@
+// The receiver's calls. A stage is four numbers: 0, 0, 0, 0 for searching, and 1 with wait, slot and byte for waiting.
+ghost use mathlib.Core.Path.{_≡_};
+ghost use Rattle.calls.specs.Outcome.{outcome};
+ghost use Rattle.receiver.specs.Calls.{openOf};
+ghost use Rattle.exports.specs.Numbers.{answer};
+ghost use Rattle.exports.specs.Receiving.{stageOf, stageNumbers, numbers, numbersOf, blockNumbers};
+use receiver::Reading;
+use receiver::Receiver;
+use receiver::Stage;
+
+// Opens the wanted band and stores the state.
+#[no_mangle]
+pub extern "C" fn modem_receiver_open(
+    wanted: u8,
+    band: &mut u8,
+    window: &mut [i16; 32],
+    run: &mut u8,
+    stage: &mut [u8; 4],
+) -> u8
+    ensures { λ r. ⌜ (r ≡ openOf wanted .number)
+        × (numbers (now (band .exit)) (now (window .exit)) (now (run .exit)) (now (stage .exit)) ≡ numbersOf (openOf wanted .receiver)) ⌝ }
+{
+    let o = Receiver::open(wanted);
+    let r = o.receiver;
+    store_state(r, band, window, run, stage);
+    o.number
+}
+
+// Reads a block of samples, and stores the count and, if the call is accepted, the next state. A refused call leaves the
+// numbers of the state as they are, even where they are not those that would be stored for it.
+#[no_mangle]
+pub extern "C" fn modem_receiver_block(
+    band: &mut u8,
+    window: &mut [i16; 32],
+    run: &mut u8,
+    stage: &mut [u8; 4],
+    samples: &[i16],
+    events: &mut [u16],
+    count: &mut usize,
+) -> u8
+    ensures { λ r. ⌜ outcome (answer r (now (count .exit))) (numbers (now (band .exit)) (now (window .exit)) (now (run .exit)) (now (stage .exit))) (now (events .exit))
+        ≡ blockNumbers (numbers (now (band .entry)) (now (window .entry)) (now (run .entry)) (now (stage .entry))) (now (samples .entry)) (now (events .entry)) ⌝ }
+{
+    let receiver = Receiver {
+        band: *band,
+        window: *window,
+        run: *run,
+        stage: stage_of(*stage),
+    };
+    let reading = receiver.block(samples, events);
+    let a = reading.answer;
+    let next = reading.receiver;
+    *count = a.count;
+    if a.number == 0 {
+        store_state(next, band, window, run, stage);
+    }
+    a.number
+}
+
+fn store_state(
+    receiver: Receiver,
+    band: &mut u8,
+    window: &mut [i16; 32],
+    run: &mut u8,
+    stage: &mut [u8; 4],
+)
+    ensures { λ r. ⌜ numbers (now (band .exit)) (now (window .exit)) (now (run .exit)) (now (stage .exit)) ≡ numbersOf receiver ⌝ }
+{
+    let samples = receiver.window;
+    let at = receiver.stage;
+    let four = stage_numbers(at);
+    *band = receiver.band;
+    *window = samples;
+    *run = receiver.run;
+    *stage = four;
+}
+
+fn stage_of(numbers: [u8; 4]) -> Stage
+    ensures { λ r. ⌜ r ≡ stageOf numbers ⌝ }
+{
+    if numbers[0] == 0 {
+        Stage::Searching
+    } else {
+        Stage::Waiting {
+            wait: numbers[1],
+            slot: numbers[2],
+            byte: numbers[3],
+        }
+    }
+}
+
+fn stage_numbers(stage: Stage) -> [u8; 4]
+    ensures { λ r. ⌜ r ≡ stageNumbers stage ⌝ }
+{
+    match stage {
+        Stage::Searching => [0, 0, 0, 0],
+        Stage::Waiting { wait, slot, byte } => [1, wait, slot, byte],
+    }
+}
