@@ -1,6 +1,6 @@
-//! A second modem to compare the first with: the sine and the transmitter,
-//! written from document 01 and from decisions 1 to 3 of `docs/DECISIONS.md`,
-//! and from none of the product's code.
+//! A second modem to compare the first with: the sine, the transmitter and the
+//! receiver, written from document 01 and from decisions 1 to 3 of
+//! `docs/DECISIONS.md`, and from none of the product's code.
 //! The tests in `tests/` compare it with the static library.
 
 #![deny(unsafe_code)]
@@ -8,5 +8,6 @@
 pub mod library;
 mod natural;
 pub mod random;
+pub mod receiver;
 pub mod sine;
 pub mod transmitter;

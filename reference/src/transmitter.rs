@@ -9,7 +9,7 @@ const CHARACTER_SAMPLES: usize = 320;
 const MOST_CHARACTERS: usize = 100;
 
 /// Steps of bit 0 (space) and bit 1 (mark) for bands 1 and 2.
-const STEPS: [[u16; 2]; 2] = [[214, 254], [405, 445]];
+pub(crate) const STEPS: [[u16; 2]; 2] = [[214, 254], [405, 445]];
 
 #[derive(Clone, Copy, Debug, PartialEq, Eq)]
 pub struct State {
@@ -25,7 +25,7 @@ pub struct Answer {
     pub state: State,
 }
 
-fn is_band(band: u8) -> bool {
+pub(crate) fn is_band(band: u8) -> bool {
     band == 1 || band == 2
 }
 

@@ -1,0 +1,230 @@
+//! The receiver of document 01, which it calls the reader, step by step.
+
+use crate::sine::Sines;
+use crate::transmitter::{is_band, STEPS};
+use std::array;
+
+pub const WINDOW: usize = 32;
+pub const MOST_SAMPLES: usize = 16_384;
+pub const LARGEST_SAMPLE: i16 = 8_191;
+pub const FULL_RUN: u8 = 32;
+pub const LAST_SLOT: u8 = 9;
+/// From the full run with space above mark to the middle of the start bit.
+pub const HALF_BIT: u8 = 16;
+pub const BIT: u8 = 32;
+/// The least energy of a good level.
+pub const GOOD_ENERGY: i64 = 32_400_000_000_000_000;
+pub const NO_STOP_BIT: u16 = 256;
+pub const CARRIER_LOST: u16 = 257;
+
+/// What document 01 calls the moment is the slot here: 0 start, 1 to 8 data,
+/// 9 stop.
+#[derive(Clone, Copy, Debug, PartialEq, Eq)]
+pub enum Stage {
+    Searching,
+    Waiting { wait: u8, slot: u8, byte: u8 },
+}
+
+#[derive(Clone, Copy, Debug, PartialEq, Eq)]
+pub struct State {
+    pub band: u8,
+    /// The last samples, oldest first.
+    pub window: [i16; WINDOW],
+    pub run: u8,
+    pub stage: Stage,
+}
+
+/// What a call returns besides the events it leaves in the lent list.
+#[derive(Clone, Copy, Debug, PartialEq, Eq)]
+pub struct Answer {
+    pub number: u8,
+    pub count: usize,
+    pub state: State,
+}
+
+/// The number and the fresh state; band 1 stands in for a refused band.
+pub fn open(band: u8) -> (u8, State) {
+    let fresh = |band| State {
+        band,
+        window: [0; WINDOW],
+        run: 0,
+        stage: Stage::Searching,
+    };
+    if is_band(band) {
+        (0, fresh(band))
+    } else {
+        (1, fresh(1))
+    }
+}
+
+/// The list places that a block of `samples` samples needs.
+pub fn places_needed(samples: usize) -> usize {
+    samples / 48 + 1
+}
+
+fn is_sample(sample: i16) -> bool {
+    (-LARGEST_SAMPLE..=LARGEST_SAMPLE).contains(&sample)
+}
+
+impl Stage {
+    fn is_in_range(self) -> bool {
+        let Stage::Waiting { wait, slot, byte } = self else {
+            return true;
+        };
+        if slot > LAST_SLOT {
+            return false;
+        }
+        let longest = if slot == 0 { HALF_BIT } else { BIT };
+        let byte_is_in_range = if slot < 2 {
+            byte == 0
+        } else {
+            u16::from(byte) < 1 << (slot - 1)
+        };
+        (1..=longest).contains(&wait) && byte_is_in_range
+    }
+}
+
+impl State {
+    pub(crate) fn is_in_range(&self) -> bool {
+        is_band(self.band)
+            && self.window.iter().all(|&sample| is_sample(sample))
+            && self.run <= FULL_RUN
+            && self.stage.is_in_range()
+    }
+}
+
+/// Reads a block and writes its events to the front of `events`.
+pub fn block(sines: &Sines, state: State, samples: &[i16], events: &mut [u16]) -> Answer {
+    if !state.is_in_range() {
+        refused(2, state)
+    } else if samples.len() > MOST_SAMPLES {
+        refused(3, state)
+    } else if !samples.iter().all(|&sample| is_sample(sample)) {
+        refused(5, state)
+    } else if events.len() < places_needed(samples.len()) {
+        refused(4, state)
+    } else {
+        read(sines, state, samples, events)
+    }
+}
+
+pub(crate) fn refused(number: u8, state: State) -> Answer {
+    Answer {
+        number,
+        count: 0,
+        state,
+    }
+}
+
+fn read(sines: &Sines, mut state: State, samples: &[i16], events: &mut [u16]) -> Answer {
+    let tones = STEPS[usize::from(state.band) - 1].map(|step| Tone::new(sines, step));
+    let mut count = 0;
+    for &sample in samples {
+        if let Some(event) = state.take(&tones, sample) {
+            events[count] = event;
+            count += 1;
+        }
+    }
+    Answer {
+        number: 0,
+        count,
+        state,
+    }
+}
+
+/// C(j t) and S(j t) of a tone with step t, for j from 0 to 31. They are
+/// looked up once for each call, only because it is quicker.
+struct Tone {
+    cosines: [i64; WINDOW],
+    sines: [i64; WINDOW],
+}
+
+impl Tone {
+    fn new(sines: &Sines, step: u16) -> Tone {
+        let step = usize::from(step);
+        Tone {
+            cosines: array::from_fn(|j| i64::from(sines.c(j * step))),
+            sines: array::from_fn(|j| i64::from(sines.s(j * step))),
+        }
+    }
+
+    /// At most 2 (32 * 8191 * 6000)^2, which is below 2^63.
+    fn energy(&self, window: &[i16; WINDOW]) -> i64 {
+        let i = weighed(window, &self.cosines);
+        let q = weighed(window, &self.sines);
+        i * i + q * q
+    }
+}
+
+fn weighed(window: &[i16; WINDOW], weights: &[i64; WINDOW]) -> i64 {
+    (0..WINDOW).map(|j| i64::from(window[j]) * weights[j]).sum()
+}
+
+impl State {
+    /// Steps 1 to 5 for one sample.
+    fn take(&mut self, tones: &[Tone; 2], sample: i16) -> Option<u16> {
+        // 1. The sample enters and the oldest leaves.
+        self.window.copy_within(1.., 0);
+        self.window[WINDOW - 1] = sample;
+
+        // 2. The energies, bit 0 being space and bit 1 mark.
+        let [space, mark] = [0, 1].map(|bit: usize| tones[bit].energy(&self.window));
+
+        // 3 to 5.
+        let event;
+        (self.run, self.stage, event) = decided(self.run, self.stage, space, mark);
+        event
+    }
+}
+
+/// Steps 3 to 5: the next run and stage, and the event if there is one.
+#[inline]
+pub(crate) fn decided(run: u8, stage: Stage, space: i64, mark: i64) -> (u8, Stage, Option<u16>) {
+    // 3. The level and the run.
+    let good = space.max(mark) >= GOOD_ENERGY;
+    let run = if good { (run + 1).min(FULL_RUN) } else { 0 };
+
+    let (stage, event) = match stage {
+        // 4. The stage is the one before this sample, the run the new one.
+        Stage::Searching if run == FULL_RUN && space > mark => (waiting(HALF_BIT, 0, 0), None),
+        Stage::Searching => (Stage::Searching, None),
+        // 5. The wait falls by 1, and at 0 the slot is taken.
+        Stage::Waiting { wait, slot, byte } if wait > 1 => (waiting(wait - 1, slot, byte), None),
+        Stage::Waiting { slot, byte, .. } => taken(slot, byte, good, space, mark),
+    };
+    (run, stage, event)
+}
+
+fn waiting(wait: u8, slot: u8, byte: u8) -> Stage {
+    Stage::Waiting { wait, slot, byte }
+}
+
+/// Step 5 when the wait is over.
+fn taken(slot: u8, byte: u8, good: bool, space: i64, mark: i64) -> (Stage, Option<u16>) {
+    if slot == 0 {
+        // Start.
+        if good && space > mark {
+            (waiting(BIT, 1, 0), None)
+        } else {
+            (Stage::Searching, None)
+        }
+    } else if slot < LAST_SLOT {
+        // Data.
+        if good {
+            let bit = u8::from(mark >= space);
+            (waiting(BIT, slot + 1, byte + (bit << (slot - 1))), None)
+        } else {
+            (Stage::Searching, Some(CARRIER_LOST))
+        }
+    } else {
+        // Stop.
+        let event = if !good {
+            CARRIER_LOST
+        } else if space > mark {
+            NO_STOP_BIT
+        } else {
+            u16::from(byte)
+        };
+        (Stage::Searching, Some(event))
+    }
+}
