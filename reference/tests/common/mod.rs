@@ -1,7 +1,13 @@
-//! What the test files share: one call made on either side, and compared.
+//! What the test files share: one call made on either side, and compared. This
+//! file has the transmitter, `receiver` the receiver, `recording` what it reads
+//! and `states` what it goes on from.
 
 // Each test file uses a part of this.
 #![allow(dead_code)]
+
+pub mod receiver;
+pub mod recording;
+pub mod states;
 
 use reference::library;
 use reference::sine::Sines;

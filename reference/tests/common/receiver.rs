@@ -1,0 +1,178 @@
+//! A receiver call made on either side, and compared.
+
+use super::{sines, Side, SIDES};
+use reference::library::{self, BlockAnswer, Numbers};
+use reference::receiver::{self, places_needed, Answer, State};
+use reference::sine::Sines;
+
+pub const WINDOW: usize = 32;
+pub const MOST_SAMPLES: usize = 16_384;
+pub const NO_STOP_BIT: u16 = 256;
+pub const CARRIER_LOST: u16 = 257;
+
+/// Places before and behind the lent ones, to find a write outside them.
+const GUARD: usize = 8;
+
+pub const FRESH: Numbers = Numbers {
+    band: 1,
+    window: [0; WINDOW],
+    run: 0,
+    stage: [0; 4],
+};
+
+/// An answer with the lent list as it stood on return.
+pub struct Reading {
+    pub answer: BlockAnswer,
+    pub places: Vec<u16>,
+}
+
+impl Reading {
+    pub fn events(&self) -> &[u16] {
+        &self.places[..self.answer.count]
+    }
+}
+
+pub fn open(side: Side, band: u8) -> (u8, Numbers) {
+    match side {
+        Side::Reference => {
+            let (number, state) = receiver::open(band);
+            (number, Numbers::from(state))
+        }
+        Side::Library => library::receiver_open(band),
+    }
+}
+
+/// The fresh state of a band that is 1 or 2, opened on both sides.
+pub fn fresh(band: u8) -> Numbers {
+    let state = Numbers { band, ..FRESH };
+    for side in SIDES {
+        assert_eq!(open(side, band), (0, state), "{side:?}");
+    }
+    state
+}
+
+/// A Rust receiver behind the C functions' numbers. A refusal changes none of
+/// them, and an accepted call stores the next state in its one form.
+pub fn in_numbers(
+    block: impl Fn(&Sines, State, &[i16], &mut [u16]) -> Answer,
+    state: Numbers,
+    samples: &[i16],
+    events: &mut [u16],
+) -> BlockAnswer {
+    let handed = State::from(state);
+    let answer = block(sines(), handed, samples, events);
+    let state = if answer.number == 0 {
+        Numbers::from(answer.state)
+    } else {
+        assert_eq!(answer.state, handed, "refused with {}", answer.number);
+        state
+    };
+    BlockAnswer {
+        number: answer.number,
+        count: answer.count,
+        state,
+    }
+}
+
+fn answer(side: Side, state: Numbers, samples: &[i16], events: &mut [u16]) -> BlockAnswer {
+    match side {
+        Side::Reference => in_numbers(receiver::block, state, samples, events),
+        Side::Library => library::receiver_block(state, samples, events),
+    }
+}
+
+/// Makes the call with `length` lent places, and checks what holds of every
+/// call: the places not covered by the count keep their fill, and a refusal
+/// leaves the state with count 0.
+pub fn block(side: Side, state: Numbers, samples: &[i16], length: usize) -> Reading {
+    let call = |samples: &[i16], events: &mut [u16]| answer(side, state, samples, events);
+    guarded(call, state, samples, length, || format!("{side:?}"))
+}
+
+/// The same for any function that answers such a call.
+pub fn guarded(
+    call: impl Fn(&[i16], &mut [u16]) -> BlockAnswer,
+    state: Numbers,
+    samples: &[i16],
+    length: usize,
+    who: impl Fn() -> String,
+) -> Reading {
+    let mut places: Vec<u16> = (0..length + 2 * GUARD).map(fill).collect();
+    let answer = call(samples, &mut places[GUARD..GUARD + length]);
+    let what = || format!("{}: {}", who(), told(state, samples, length));
+    assert!(answer.count <= length, "{}: {answer:?}", what());
+    if answer.number != 0 {
+        assert_eq!((answer.count, answer.state), (0, state), "{}", what());
+    }
+    let filled = GUARD..GUARD + answer.count;
+    let changed = |&place: &usize| !filled.contains(&place) && places[place] != fill(place);
+    if let Some(place) = (0..places.len()).find(changed) {
+        panic!("{}: place {place} - {GUARD} changed", what());
+    }
+    places.truncate(GUARD + length);
+    places.drain(..GUARD);
+    Reading { answer, places }
+}
+
+/// Differs from place to place and is never an event, which is at most 257.
+fn fill(place: usize) -> u16 {
+    u16::try_from(1_000 + place % 60_000).expect("at most 60999")
+}
+
+/// A call in words, without its many samples.
+fn told(state: Numbers, samples: &[i16], length: usize) -> String {
+    let count = samples.len();
+    format!("{count} samples from {state:?} into {length} places")
+}
+
+/// The library must answer the call as the reference does, in every place.
+pub fn compare(state: Numbers, samples: &[i16], length: usize) -> Reading {
+    let expected = block(Side::Reference, state, samples, length);
+    let found = block(Side::Library, state, samples, length);
+    let what = || told(state, samples, length);
+    assert_eq!(found.answer, expected.answer, "{}", what());
+    assert_eq!(found.places, expected.places, "{}", what());
+    found
+}
+
+/// The same into exactly the places needed. The call must be accepted.
+pub fn compare_accepted(state: Numbers, samples: &[i16]) -> Reading {
+    let length = places_needed(samples.len());
+    let found = compare(state, samples, length);
+    assert_eq!(found.answer.number, 0, "{}", told(state, samples, length));
+    found
+}
+
+/// The events of the blocks joined, and the state after the last one.
+pub fn read_on<'a>(
+    mut state: Numbers,
+    blocks: impl IntoIterator<Item = &'a [i16]>,
+) -> (Vec<u16>, Numbers) {
+    let mut events = Vec::new();
+    for samples in blocks {
+        let reading = compare_accepted(state, samples);
+        events.extend_from_slice(reading.events());
+        state = reading.answer.state;
+    }
+    (events, state)
+}
+
+/// The events of a recording from the fresh state, in blocks of `size`.
+pub fn read(band: u8, recording: &[i16], size: usize) -> Vec<u16> {
+    read_on(fresh(band), recording.chunks(size)).0
+}
+
+/// Equal, or the first event that differs is told instead of all of them.
+pub fn assert_events(found: &[u16], expected: &[u16], what: impl Fn() -> String) {
+    if found != expected {
+        let pairs = found.iter().zip(expected);
+        let place = pairs.take_while(|(found, expected)| found == expected);
+        let place = place.count();
+        let (first, second) = (found.get(place), expected.get(place));
+        let counts = format!("{} events, not {}", found.len(), expected.len());
+        panic!(
+            "{}: {counts}; event {place} is {first:?}, not {second:?}",
+            what()
+        );
+    }
+}

@@ -1,0 +1,129 @@
+//! Receiver states in range and out of it, and blocks to read from them.
+
+use super::receiver::{FRESH, WINDOW};
+use super::recording::around_0;
+use super::sines;
+use reference::library::Numbers;
+use reference::random::Random;
+
+/// The ranges of document 01, and the two forms of a stage.
+pub fn is_good(state: &Numbers) -> bool {
+    let [first, wait, slot, byte] = state.stage.map(u32::from);
+    let stage = match slot {
+        _ if first == 0 => true,
+        0 => (1..=16).contains(&wait) && byte == 0,
+        1 => (1..=32).contains(&wait) && byte == 0,
+        2..=9 => (1..=32).contains(&wait) && byte < 2_u32.pow(slot - 1),
+        _ => false,
+    };
+    let samples = state.window.map(i32::from);
+    let window = samples.iter().all(|sample| sample.abs() <= 8_191);
+    stage && window && [1, 2].contains(&state.band) && state.run <= 32
+}
+
+/// The steps of space and mark.
+pub fn steps(band: u8) -> [usize; 2] {
+    [[214, 254], [405, 445]][usize::from(band) - 1]
+}
+
+/// A tone of space or mark, or one near them, at any phase and loudness.
+pub fn tone(random: &mut Random, band: u8, count: usize) -> Vec<i16> {
+    let step = match random.below(5) {
+        0 => random.below(960),
+        other => steps(band)[other % 2],
+    };
+    let phase = random.below(1_920);
+    // In 6000ths; about 1875 of them make the least good level.
+    let loudness = match random.below(4) {
+        0 => 1_700 + random.below(400),
+        1 => random.below(8_192),
+        _ => 6_000,
+    };
+    let sample = |place| {
+        let sample = i32::from(sines().s(phase + place * step));
+        (sample * loudness as i32 / 6_000) as i16
+    };
+    (0..count).map(sample).collect()
+}
+
+/// Silence, noise of any loudness, or a tone, each changing now and then.
+pub fn any_samples(random: &mut Random, band: u8, count: usize) -> Vec<i16> {
+    let mut samples = Vec::new();
+    while samples.len() < count {
+        let piece = 1 + random.below(300);
+        match random.below(8) {
+            0 => samples.extend(vec![0; piece]),
+            1 | 2 => {
+                let most = [100, 1_000, 4_000, 8_191][random.below(4)];
+                samples.extend((0..piece).map(|_| around_0(random, most)));
+            }
+            _ => samples.extend(tone(random, band, piece)),
+        }
+    }
+    samples.truncate(count);
+    samples
+}
+
+/// Any state in range, mostly waiting, its stage in any form.
+pub fn good_state(random: &mut Random) -> Numbers {
+    let band = 1 + random.below(2) as u8;
+    let window = any_samples(random, band, WINDOW);
+    let run = match random.below(3) {
+        0 => 32,
+        _ => random.below(33) as u8,
+    };
+    let stage = match random.below(4) {
+        0 => {
+            let rest = if random.below(2) == 0 { 1 } else { 256 };
+            let mut number = || random.below(rest) as u8;
+            [0, number(), number(), number()]
+        }
+        _ => {
+            let first = match random.below(4) {
+                0 => 1 + random.below(255),
+                _ => 1,
+            };
+            let slot = random.below(10);
+            let wait = 1 + random.below(if slot == 0 { 16 } else { 32 });
+            let byte = random.below(if slot < 2 { 1 } else { 1 << (slot - 1) });
+            [first, wait, slot, byte].map(|number| number as u8)
+        }
+    };
+    let window = window.try_into().expect("a whole window");
+    let state = Numbers {
+        band,
+        window,
+        run,
+        stage,
+    };
+    assert!(is_good(&state), "{state:?}");
+    state
+}
+
+/// A state in range with one field put out of it.
+pub fn hostile_state(random: &mut Random) -> Numbers {
+    let mut state = good_state(random);
+    match random.below(6) {
+        0 => state.band = [0, 3, 4, 128, 255][random.below(5)],
+        1 => state.run = 33 + random.below(256 - 33) as u8,
+        2 => {
+            let bad = [-32_768, -8_193, -8_192, 8_192, 8_193, 32_767];
+            state.window[random.below(WINDOW)] = bad[random.below(bad.len())];
+        }
+        3 => state.stage = [1, 0, random.below(10) as u8, 0],
+        4 => state.stage = [1, 1, 10 + random.below(246) as u8, 0],
+        _ => {
+            let slot = random.below(9);
+            let least = if slot < 2 { 1 } else { 1 << (slot - 1) };
+            let byte = least + random.below(256 - least);
+            state.stage = [1, 1, slot as u8, byte as u8];
+        }
+    }
+    assert!(!is_good(&state), "{state:?}");
+    state
+}
+
+/// A fresh state of band 1 with another stage.
+pub fn with_stage(stage: [u8; 4]) -> Numbers {
+    Numbers { stage, ..FRESH }
+}

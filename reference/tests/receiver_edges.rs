@@ -1,0 +1,297 @@
+//! Windows that lie exactly on the edge: equal energies, energies that differ
+//! by 1, and the least energy of a good level. Other tests hardly ever meet
+//! one.
+
+mod common;
+
+use common::receiver::{compare_accepted, CARRIER_LOST, NO_STOP_BIT, WINDOW};
+use common::sines;
+use common::states::steps;
+use reference::library::Numbers;
+
+/// A window with I and Q of space, then of mark.
+struct Case {
+    band: u8,
+    sums: [i64; 4],
+    window: [i16; WINDOW],
+}
+
+/// Found with a reduced basis of the lattice of all windows. The rows are the
+/// same for both bands: equal and least good; space more by 1; mark more by 1;
+/// mark least good; space least good; equal and 14 less than least good, as no
+/// number between is a sum of two squares; equal and far above.
+const CASES: [Case; 14] = [
+    Case {
+        band: 1,
+        sums: [180_000_000, 0, 180_000_000, 0],
+        window: [
+            5_305, 3_520, -104, -3_444, -4_672, -3_278, -256, 2_574, 3_693, 2_701, 448, -1_635,
+            -2_450, -1_814, -419, 741, 1_064, 668, 148, 29, 346, 635, 352, -592, -1_659, -1_986,
+            -1_034, 908, 2_762, 3_264, 1_826, -970,
+        ],
+    },
+    Case {
+        band: 1,
+        sums: [1, 180_000_000, 0, 180_000_000],
+        window: [
+            -320, 3_468, 5_178, 3_950, 650, -2_751, -4_362, -3_462, -810, 1_936, 3_254, 2_634, 741,
+            -1_133, -1_952, -1_514, -432, 431, 578, 193, -122, 91, 742, 1_223, 877, -388, -1_904,
+            -2_607, -1_752, 445, 2_810, 3_838,
+        ],
+    },
+    Case {
+        band: 1,
+        sums: [180_000_000, 0, 180_000_000, 1],
+        window: [
+            5_307, 3_520, -106, -3_442, -4_671, -3_278, -257, 2_572, 3_695, 2_701, 447, -1_639,
+            -2_451, -1_810, -422, 737, 1_066, 671, 146, 28, 349, 636, 353, -592, -1_660, -1_985,
+            -1_035, 909, 2_761, 3_263, 1_825, -969,
+        ],
+    },
+    Case {
+        band: 1,
+        sums: [0, 50_000_000, 0, 180_000_000],
+        window: [
+            -849, 1_857, 3_343, 2_803, 680, -1_662, -2_822, -2_216, -386, 1_448, 2_167, 1_461, -36,
+            -1_262, -1_446, -590, 567, 1_139, 717, -338, -1_176, -1_088, -38, 1_255, 1_819, 1_108,
+            -544, -2_092, -2_439, -1_194, 993, 2_783,
+        ],
+    },
+    Case {
+        band: 1,
+        sums: [-180_000_000, 0, 30_000_000, 0],
+        window: [
+            -2_297, -976, 694, 1_864, 2_043, 1_277, 46, -1_040, -1_548, -1_371, -702, 133, 849,
+            1_241, 1_216, 760, -23, -895, -1_517, -1_555, -857, 366, 1_590, 2_166, 1_691, 277,
+            -1_436, -2_548, -2_399, -963, 1_080, 2_661,
+        ],
+    },
+    Case {
+        band: 1,
+        sums: [155_439_219, 90_767_005, 90_767_005, -155_439_219],
+        window: [
+            4_938, 2_310, -1_269, -3_719, -3_845, -1_901, 689, 2_385, 2_423, 1_176, -287, -1_010,
+            -790, -160, 117, -265, -922, -1_064, -212, 1_336, 2_559, 2_389, 545, -2_116, -3_986,
+            -3_689, -1_067, 2_564, 5_084, 4_828, 1_695, -2_675,
+        ],
+    },
+    Case {
+        band: 1,
+        sums: [324_000_000, 432_000_000, -540_000_000, 0],
+        window: [
+            -1_065, 1_222, 3_474, 4_110, 2_304, -1_294, -4_723, -5_818, -3_591, 1_013, 5_475,
+            7_127, 4_770, -469, -5_711, -7_907, -5_694, -221, 5_444, 8_091, 6_223, 930, -4_757,
+            -7_658, -6_258, -1_515, 3_773, 6_664, 5_750, 1_849, -2_633, -5_205,
+        ],
+    },
+    Case {
+        band: 2,
+        sums: [180_000_000, 0, 180_000_000, 0],
+        window: [
+            5_164, 981, -4_567, -2_491, 3_393, 3_443, -1_922, -3_719, 457, 3_372, 700, -2_572,
+            -1_367, 1_576, 1_471, -683, -1_100, 130, 458, -49, 191, 438, -586, -1_158, 527, 1_965,
+            48, -2_578, -1_065, 2_751, 2_327, -2_330,
+        ],
+    },
+    Case {
+        band: 2,
+        sums: [1, 180_000_000, 0, 180_000_000],
+        window: [
+            84, 5_368, 1_799, -4_422, -3_212, 2_967, 3_937, -1_315, -3_923, -175, 3_276, 1_226,
+            -2_247, -1_678, 1_143, 1_525, -275, -919, -134, 127, -14, 543, 642, -830, -1_544, 563,
+            2_427, 275, -2_982, -1_537, 2_966, 2_959,
+        ],
+    },
+    Case {
+        band: 2,
+        sums: [180_000_000, 0, 180_000_000, 1],
+        window: [
+            5_164, 980, -4_567, -2_492, 3_395, 3_441, -1_921, -3_725, 457, 3_372, 701, -2_568,
+            -1_364, 1_577, 1_470, -684, -1_096, 126, 461, -48, 192, 441, -585, -1_157, 525, 1_963,
+            45, -2_578, -1_065, 2_751, 2_328, -2_329,
+        ],
+    },
+    Case {
+        band: 2,
+        sums: [0, 50_000_000, 0, 180_000_000],
+        window: [
+            -539, 3_299, 1_524, -2_630, -2_203, 1_773, 2_515, -891, -2_470, 138, 2_166, 381,
+            -1_730, -632, 1_310, 649, -1_021, -532, 920, 408, -1_020, -400, 1_240, 586, -1_457,
+            -1_000, 1_547, 1_586, -1_388, -2_234, 916, 2_795,
+        ],
+    },
+    Case {
+        band: 2,
+        sums: [-180_000_000, 0, 30_000_000, 0],
+        window: [
+            -2_085, 448, 2_103, 529, -1_655, -1_245, 880, 1_540, 15, -1_371, -786, 807, 1_244, -3,
+            -1_266, -815, 841, 1_418, -78, -1_639, -837, 1_386, 1_658, -704, -2_175, -275, 2_240,
+            1_328, -1_794, -2_211, 922, 2_716,
+        ],
+    },
+    Case {
+        band: 2,
+        sums: [155_439_219, 90_767_005, 90_767_005, -155_439_219],
+        window: [
+            4_623, -312, -4_219, -1_121, 3_255, 1_988, -2_038, -2_211, 894, 1_855, -92, -1_135,
+            -179, 342, -92, 211, 775, -307, -1_607, -163, 2_281, 1_131, -2_520, -2_395, 2_134,
+            3_649, -1_088, -4_563, -486, 4_858, 2_328, -4_374,
+        ],
+    },
+    Case {
+        band: 2,
+        sums: [324_000_000, 432_000_000, -540_000_000, 0],
+        window: [
+            -1_288, 2_753, 2_829, -2_357, -4_403, 1_102, 5_568, 864, -5_946, -3_199, 5_316, 5_440,
+            -3_673, -7_108, 1_248, 7_836, 1_556, -7_431, -4_245, 5_930, 6_331, -3_594, -7_453, 859,
+            7_448, 1_780, -6_383, -3_856, 4_548, 5_047, -2_363, -5_240,
+        ],
+    },
+];
+
+const LEAST_GOOD: i64 = 32_400_000_000_000_000;
+
+impl Case {
+    fn energies(&self) -> (i64, i64) {
+        let [space_i, space_q, mark_i, mark_q] = self.sums.map(|sum| sum * sum);
+        (space_i + space_q, mark_i + mark_q)
+    }
+
+    fn good(&self) -> bool {
+        let (space, mark) = self.energies();
+        space.max(mark) >= LEAST_GOOD
+    }
+
+    /// The stage and the event after the window's last sample, which is read
+    /// behind the others from the given run and stage.
+    fn read(&self, run: u8, stage: [u8; 4]) -> ([u8; 4], Vec<u16>) {
+        // The oldest sample leaves; it would change every sum if it stayed.
+        let mut window = [1_234; WINDOW];
+        window[1..].copy_from_slice(&self.window[..WINDOW - 1]);
+        let state = Numbers {
+            band: self.band,
+            window,
+            run,
+            stage,
+        };
+        let reading = compare_accepted(state, &self.window[WINDOW - 1..]);
+        let next = reading.answer.state;
+        assert_eq!(next.window, self.window);
+        assert_eq!(next.run, if self.good() { (run + 1).min(32) } else { 0 });
+        (next.stage, reading.events().to_vec())
+    }
+}
+
+#[test]
+fn the_sums_are_those_of_the_windows() {
+    for case in &CASES {
+        let weighed = |weight: &dyn Fn(usize) -> i16| -> i64 {
+            let pairs = case.window.iter().enumerate();
+            let products = pairs.map(|(j, &x)| i64::from(x) * i64::from(weight(j)));
+            products.sum()
+        };
+        let [space, mark] = steps(case.band);
+        let sums = [
+            weighed(&|j| sines().c(j * space)),
+            weighed(&|j| sines().s(j * space)),
+            weighed(&|j| sines().c(j * mark)),
+            weighed(&|j| sines().s(j * mark)),
+        ];
+        assert_eq!(sums, case.sums);
+    }
+}
+
+#[test]
+fn both_bands_have_each_edge() {
+    for cases in CASES.chunks(7) {
+        let found: Vec<_> = cases
+            .iter()
+            .map(|case| {
+                let (space, mark) = case.energies();
+                (space - mark, space.max(mark) - LEAST_GOOD)
+            })
+            .collect();
+        assert_eq!(found[..3], [(0, 0), (1, 1), (-1, 1)]);
+        assert_eq!((found[3].1, found[4].1), (0, 0));
+        assert!(found[3].0 < 0 && found[4].0 > 0);
+        assert_eq!(found[5], (0, -14));
+        assert_eq!(found[6].0, 0);
+    }
+}
+
+/// Only a full run and space above mark end the search.
+#[test]
+fn searching() {
+    for case in &CASES {
+        let (space, mark) = case.energies();
+        for run in 0..=32 {
+            let (stage, events) = case.read(run, [0; 4]);
+            let found = case.good() && run >= 31 && space > mark;
+            let expected = if found { [1, 16, 0, 0] } else { [0; 4] };
+            assert_eq!((stage, events), (expected, vec![]), "run {run}");
+        }
+    }
+}
+
+/// Nothing is decided before the wait is over.
+#[test]
+fn waiting() {
+    for case in &CASES {
+        for wait in 2..=32 {
+            for slot in u8::from(wait > 16)..=9 {
+                let (stage, events) = case.read(5, [1, wait, slot, 0]);
+                assert_eq!((stage, events), ([1, wait - 1, slot, 0], vec![]));
+            }
+        }
+    }
+}
+
+#[test]
+fn start() {
+    for case in &CASES {
+        let (space, mark) = case.energies();
+        let (stage, events) = case.read(0, [1, 1, 0, 0]);
+        let begun = case.good() && space > mark;
+        let expected = if begun { [1, 32, 1, 0] } else { [0; 4] };
+        assert_eq!((stage, events), (expected, vec![]));
+    }
+}
+
+/// A tie is a mark here.
+#[test]
+fn data() {
+    for case in &CASES {
+        let (space, mark) = case.energies();
+        for slot in 1..=8 {
+            let place = 1 << (slot - 1);
+            for byte in [0, place - 1, place / 2] {
+                let expected = if !case.good() {
+                    ([0; 4], vec![CARRIER_LOST])
+                } else if mark >= space {
+                    ([1, 32, slot + 1, byte + place], vec![])
+                } else {
+                    ([1, 32, slot + 1, byte], vec![])
+                };
+                assert_eq!(case.read(0, [1, 1, slot, byte]), expected);
+            }
+        }
+    }
+}
+
+#[test]
+fn stop() {
+    for case in &CASES {
+        let (space, mark) = case.energies();
+        for byte in 0..=255 {
+            let event = if !case.good() {
+                CARRIER_LOST
+            } else if space > mark {
+                NO_STOP_BIT
+            } else {
+                u16::from(byte)
+            };
+            let found = case.read(31, [1, 1, 9, byte]);
+            assert_eq!(found, ([0; 4], vec![event]));
+        }
+    }
+}

@@ -1,0 +1,100 @@
+//! Document 01's bench examples of blocks and events, with its numbers.
+
+mod common;
+
+use common::receiver::{compare, fresh, read, read_on, CARRIER_LOST, NO_STOP_BIT};
+use common::recording::sending;
+use common::states::steps;
+use common::{sines, BANDS, IDLE_SAMPLES};
+
+/// The example in one block, and cut in several ways.
+const SIZES: [usize; 6] = [1, 31, 47, 48, 320, 16_384];
+
+#[test]
+fn a_thousand_zeros_have_no_event() {
+    for band in BANDS {
+        for size in SIZES {
+            assert_eq!(read(band, &[0; 1_000], size), [], "band {band}, {size}");
+        }
+    }
+}
+
+#[test]
+fn a_thousand_samples_of_space_are_three_faults() {
+    for band in BANDS {
+        let [space, _] = steps(band);
+        let samples: Vec<i16> = (0..1_000).map(|place| sines().s(place * space)).collect();
+        for size in SIZES {
+            let events = read(band, &samples, size);
+            assert_eq!(events, [NO_STOP_BIT; 3], "band {band}, {size}");
+        }
+    }
+}
+
+#[test]
+fn a_character_that_breaks_off_is_one_fault() {
+    for band in BANDS {
+        let mut samples = sending(band, &[0xff]);
+        samples.truncate(IDLE_SAMPLES + 64);
+        samples.extend([0; 200]);
+        for size in SIZES {
+            let events = read(band, &samples, size);
+            assert_eq!(events, [CARRIER_LOST], "band {band}, {size}");
+        }
+    }
+}
+
+#[test]
+fn places_for_blocks_of_47_and_48_and_0() {
+    for band in BANDS {
+        let state = fresh(band);
+        for (count, places) in [(47, 1), (48, 2), (0, 1)] {
+            let samples = vec![0; count];
+            let exact = compare(state, &samples, places).answer;
+            assert_eq!((exact.number, exact.count), (0, 0), "{count} into {places}");
+            let short = compare(state, &samples, places - 1).answer;
+            assert_eq!((short.number, short.count), (4, 0), "{count}, one fewer");
+        }
+    }
+}
+
+#[test]
+fn the_largest_samples() {
+    for band in BANDS {
+        for (sample, number) in [
+            (8_191, 0),
+            (-8_191, 0),
+            (8_192, 5),
+            (-8_192, 5),
+            (-32_768, 5),
+            (32_767, 5),
+        ] {
+            let answer = compare(fresh(band), &[sample], 1).answer;
+            assert_eq!(answer.number, number, "band {band}, sample {sample}");
+        }
+    }
+}
+
+#[test]
+fn the_most_samples() {
+    for band in BANDS {
+        for (count, number) in [(16_383, 0), (16_384, 0), (16_385, 3), (100_000, 3)] {
+            let answer = compare(fresh(band), &vec![0; count], count / 48 + 1).answer;
+            assert_eq!(answer.number, number, "band {band}, {count} samples");
+        }
+    }
+}
+
+/// The end of the trailer must not begin a character: 41 hexadecimal alone,
+/// then nothing but silence, after which the state is fresh again.
+#[test]
+fn the_single_character_41() {
+    for band in BANDS {
+        let samples = sending(band, &[0x41]);
+        let (events, state) = read_on(fresh(band), samples.chunks(100));
+        assert_eq!(events, [0x41], "band {band}");
+        let (events, state) = read_on(state, [0; 1_000].chunks(100));
+        assert_eq!(events, [], "band {band}");
+        assert_eq!(state, fresh(band), "band {band}");
+    }
+}

@@ -1,0 +1,119 @@
+//! Blocks read on from any state in range.
+
+mod common;
+
+use common::receiver::{compare_accepted, CARRIER_LOST, FRESH, NO_STOP_BIT, WINDOW};
+use common::states::{any_samples, good_state, steps};
+use common::{sines, BANDS};
+use reference::library::Numbers;
+use reference::random::Random;
+
+/// Windows of silence, of space and of mark.
+fn windows(band: u8) -> [[i16; WINDOW]; 3] {
+    let [space, mark] = steps(band);
+    let tone = |step: usize| std::array::from_fn(|j| sines().s(j * step));
+    [[0; WINDOW], tone(space), tone(mark)]
+}
+
+/// Every stage that waits, over windows and blocks of either tone or none.
+#[test]
+fn every_slot_and_wait() {
+    let mut random = Random::new(38);
+    let mut seen = [0; 258];
+    for band in BANDS {
+        let windows = windows(band);
+        for slot in 0..=9_u8 {
+            for wait in 1..=if slot == 0 { 16 } else { 32 } {
+                let limit = if slot < 2 { 1 } else { 1 << (slot - 1) };
+                for byte in [0, limit - 1, random.below(limit)] {
+                    for window in windows {
+                        for tone in windows {
+                            let state = Numbers {
+                                band,
+                                window,
+                                run: random.below(33) as u8,
+                                stage: [1, wait, slot, byte as u8],
+                            };
+                            let samples = tone.repeat(2);
+                            let size = random.below(samples.len() + 1);
+                            for event in compare_accepted(state, &samples[..size]).events() {
+                                seen[usize::from(*event)] += 1;
+                            }
+                        }
+                    }
+                }
+            }
+        }
+    }
+    assert!(seen[usize::from(NO_STOP_BIT)] >= 50);
+    assert!(seen[usize::from(CARRIER_LOST)] >= 500);
+    assert!(seen[..256].iter().filter(|&&count| count > 0).count() >= 30);
+}
+
+/// Every run when searching; the next is one more, at most 32, or 0.
+#[test]
+fn every_run() {
+    for band in BANDS {
+        for window in windows(band) {
+            for run in 0..=32 {
+                let state = Numbers {
+                    band,
+                    window,
+                    run,
+                    ..FRESH
+                };
+                for size in 0..=40 {
+                    let long = window.repeat(2);
+                    let next = compare_accepted(state, &long[..size]).answer.state;
+                    let grown = (usize::from(run) + size).min(32) as u8;
+                    let expected = if size > 0 && window == [0; WINDOW] {
+                        0
+                    } else {
+                        grown
+                    };
+                    assert_eq!(next.run, expected, "band {band}, {size} samples");
+                }
+            }
+        }
+    }
+}
+
+/// The state after a block is the state to read the next one from: a block cut
+/// in two gives the same as the whole.
+#[test]
+fn random_states() {
+    let mut random = Random::new(39);
+    let mut seen = [0; 258];
+    for _ in 0..12_000 {
+        let state = good_state(&mut random);
+        let size = random.below(300);
+        let samples = any_samples(&mut random, state.band, size);
+        let whole = compare_accepted(state, &samples);
+        let (head, tail) = samples.split_at(random.below(size + 1));
+        let first = compare_accepted(state, head);
+        let second = compare_accepted(first.answer.state, tail);
+        let joined = [first.events(), second.events()].concat();
+        assert_eq!(whole.events(), joined, "{state:?}");
+        assert_eq!(whole.answer.state, second.answer.state, "{state:?}");
+        for &event in whole.events() {
+            seen[usize::from(event)] += 1;
+        }
+    }
+    assert!(seen[usize::from(NO_STOP_BIT)] >= 300);
+    assert!(seen[usize::from(CARRIER_LOST)] >= 300);
+    assert!(seen[..256].iter().filter(|&&count| count > 0).count() >= 200);
+}
+
+/// After 32 samples the window holds the last 32, whatever was there before.
+#[test]
+fn the_window_holds_the_last_samples() {
+    let mut random = Random::new(40);
+    for size in 0..=100 {
+        let state = good_state(&mut random);
+        let samples = any_samples(&mut random, state.band, size);
+        let next = compare_accepted(state, &samples).answer.state;
+        let all = [&state.window[..], &samples].concat();
+        assert_eq!(next.window, all[size..], "{size} samples");
+        assert_eq!(next.band, state.band);
+    }
+}
