@@ -2,12 +2,16 @@
 //! receiver, written from document 01 and from decisions 1 to 3 of
 //! `docs/DECISIONS.md`, and from none of the product's code.
 //! The tests in `tests/` compare it with the static library.
+//! `in_place` and `shifted_window` are the receiver again, written for speed;
+//! the benchmark measures the library beside them.
 
 #![deny(unsafe_code)]
 
+pub mod in_place;
 pub mod library;
 mod natural;
 pub mod random;
 pub mod receiver;
+pub mod shifted_window;
 pub mod sine;
 pub mod transmitter;

@@ -1,0 +1,122 @@
+//! The receiver's block call written for speed: each window is looked at where
+//! it lies in the block. A named peer of the benchmark.
+
+use crate::receiver::{
+    decided, places_needed, refused, Answer, Stage, State, LARGEST_SAMPLE, MOST_SAMPLES, WINDOW,
+};
+use crate::sine::Sines;
+use crate::transmitter::STEPS;
+use std::array;
+
+/// C and S of space, then of mark, at the phases of a window. Aligned, so that
+/// vector instructions take them from memory directly.
+#[repr(align(16))]
+pub(crate) struct Weights(pub(crate) [[i16; WINDOW]; 4]);
+
+impl Weights {
+    pub(crate) fn new(sines: &Sines, band: u8) -> Weights {
+        let [space, mark] = STEPS[usize::from(band) - 1].map(usize::from);
+        Weights([
+            array::from_fn(|j| sines.c(j * space)),
+            array::from_fn(|j| sines.s(j * space)),
+            array::from_fn(|j| sines.c(j * mark)),
+            array::from_fn(|j| sines.s(j * mark)),
+        ])
+    }
+
+    /// I and Q of space, then of mark. Each is at most 32 * 8191 * 6000, which
+    /// is below 2^31. A function of its own, because the compiler then makes
+    /// vector instructions of all four sums, and inlined only of some.
+    #[inline(never)]
+    fn sums(&self, window: &[i16; WINDOW]) -> [i32; 4] {
+        self.0.each_ref().map(|weights| {
+            let pairs = window.iter().zip(weights);
+            pairs.map(|(&x, &w)| i32::from(x) * i32::from(w)).sum()
+        })
+    }
+}
+
+/// The first refusal whose condition holds. The samples are tested without a
+/// way out in between, which lets the compiler test several at once.
+pub(crate) fn refusal(state: &State, samples: &[i16], places: usize) -> Option<u8> {
+    let is_sample = |sample: i16| (-LARGEST_SAMPLE..=LARGEST_SAMPLE).contains(&sample);
+    if !state.is_in_range() {
+        Some(2)
+    } else if samples.len() > MOST_SAMPLES {
+        Some(3)
+    } else if !samples.iter().fold(true, |all, &x| all & is_sample(x)) {
+        Some(5)
+    } else if places < places_needed(samples.len()) {
+        Some(4)
+    } else {
+        None
+    }
+}
+
+/// Run and stage, and the list with how much of it is filled.
+pub(crate) struct Progress<'a> {
+    pub(crate) run: u8,
+    pub(crate) stage: Stage,
+    pub(crate) count: usize,
+    events: &'a mut [u16],
+}
+
+impl<'a> Progress<'a> {
+    pub(crate) fn new(state: &State, events: &'a mut [u16]) -> Progress<'a> {
+        Progress {
+            run: state.run,
+            stage: state.stage,
+            count: 0,
+            events,
+        }
+    }
+
+    /// Steps 3 to 5 for the sums of a window.
+    #[inline(always)]
+    pub(crate) fn advance(&mut self, sums: [i32; 4]) {
+        let [space_i, space_q, mark_i, mark_q] = sums.map(|x| i64::from(x) * i64::from(x));
+        let (space, mark) = (space_i + space_q, mark_i + mark_q);
+        let event;
+        (self.run, self.stage, event) = decided(self.run, self.stage, space, mark);
+        if let Some(event) = event {
+            self.events[self.count] = event;
+            self.count += 1;
+        }
+    }
+}
+
+/// The same as [`crate::receiver::block`].
+pub fn block(sines: &Sines, state: State, samples: &[i16], events: &mut [u16]) -> Answer {
+    if let Some(number) = refusal(&state, samples, events.len()) {
+        return refused(number, state);
+    }
+    let weights = Weights::new(sines, state.band);
+    let mut progress = Progress::new(&state, events);
+
+    // The old window and the samples whose windows reach back into it.
+    let short = samples.len().min(WINDOW - 1);
+    let mut head = [0; 2 * WINDOW - 1];
+    head[..WINDOW].copy_from_slice(&state.window);
+    head[WINDOW..WINDOW + short].copy_from_slice(&samples[..short]);
+    let head = &head[..WINDOW + short];
+
+    // The head's first window is the old one, which was weighed before.
+    for window in head[1..].windows(WINDOW) {
+        progress.advance(weights.sums(window.try_into().expect("a whole window")));
+    }
+    for window in samples.windows(WINDOW) {
+        progress.advance(weights.sums(window.try_into().expect("a whole window")));
+    }
+
+    let last = samples.last_chunk().or(head.last_chunk());
+    Answer {
+        number: 0,
+        count: progress.count,
+        state: State {
+            window: *last.expect("the head holds a window"),
+            run: progress.run,
+            stage: progress.stage,
+            ..state
+        },
+    }
+}

@@ -1,0 +1,38 @@
+//! The receiver's block call with narrow numbers and a window that is shifted
+//! at each sample. A named peer of the benchmark.
+
+use crate::in_place::{refusal, Progress, Weights};
+use crate::receiver::{refused, Answer, State, WINDOW};
+use crate::sine::Sines;
+
+/// One sum to a call, which is quicker here than all four in one.
+#[inline(never)]
+fn sum(window: &[i16; WINDOW], weights: &[i16; WINDOW]) -> i32 {
+    let pairs = window.iter().zip(weights);
+    pairs.map(|(&x, &w)| i32::from(x) * i32::from(w)).sum()
+}
+
+/// The same as [`crate::receiver::block`].
+pub fn block(sines: &Sines, state: State, samples: &[i16], events: &mut [u16]) -> Answer {
+    if let Some(number) = refusal(&state, samples, events.len()) {
+        return refused(number, state);
+    }
+    let weights = Weights::new(sines, state.band);
+    let mut progress = Progress::new(&state, events);
+    let mut window = state.window;
+    for &sample in samples {
+        window.copy_within(1.., 0);
+        window[WINDOW - 1] = sample;
+        progress.advance(weights.0.each_ref().map(|weights| sum(&window, weights)));
+    }
+    Answer {
+        number: 0,
+        count: progress.count,
+        state: State {
+            window,
+            run: progress.run,
+            stage: progress.stage,
+            ..state
+        },
+    }
+}
