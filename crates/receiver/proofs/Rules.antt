@@ -1,16 +1,16 @@
 -- The cases of the step rule, each an equation under the tests that lead to it.
 -- Assumes nothing.
 use mathlib.Core.Path.{_≡_, refl}
-use mathlib.Core.Bool.{true, false}
+use mathlib.Core.Bool.{true, false, false≢true}
 use Prim.Native.Nat.{ℕ, _+_, _-_, _<_, _≤_}
-use native.Mathlib.Omega.{arith}
 use borrow.Author.Tests.{le-leb, lt-leb, eq-eqb, ne-eqb}
 use lib.Dec.{leb}
 use Rattle.integers.proofs.Tests.{cond-case}
 use Rattle.receiver.specs.declared.Decision.{Decision}
 use Rattle.receiver.specs.declared.Next.{Next}
+use Rattle.receiver.specs.declared.Stage.{Stage}
 use Rattle.receiver.specs.declared.Stage.the-variants.{Searching, Waiting}
-use Rattle.receiver.specs.Step.{carrierLost, noStop, quiet, report, gathered, taken, nextOf}
+use Rattle.receiver.specs.Step.{carrierLost, noStop, quiet, report, gathered, taken, nextOf, isDue, waitOver}
 
 -- ---- a slot is taken
 
@@ -60,11 +60,11 @@ module _ (run : ℕ) (d : Decision) where
   unfolding nextOf
   search-mark e s = simp (eq-eqb run 32 e, s)
 
-  module _ (wait slot byte : ℕ) where
-    pub wait-more : 1 < wait → nextOf (Waiting wait slot byte) run d ≡ quiet (Waiting (wait - 1) slot byte)
-    unfolding nextOf
-    wait-more h = simp (ne-eqb (wait - 1) 0 (λ e. omega arith))
+  pub wait-more : (wait slot byte : ℕ) → isDue (Waiting wait slot byte) ≡ false → nextOf (Waiting wait slot byte) run d ≡ quiet (Waiting (wait - 1) slot byte)
+  unfolding nextOf
+  wait-more wait slot byte e = rw e
 
-    pub wait-over : wait ≤ 1 → nextOf (Waiting wait slot byte) run d ≡ taken slot byte d
-    unfolding nextOf
-    wait-over h = let e : wait - 1 ≡ 0 = omega arith in rw e
+  pub wait-over : (stage : Stage) → isDue stage ≡ true → nextOf stage run d ≡ waitOver stage d
+  unfolding nextOf
+  wait-over Searching e = absurd (false≢true e)
+  wait-over (Waiting wait slot byte) e = rw e

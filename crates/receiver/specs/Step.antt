@@ -1,7 +1,7 @@
 -- The step rule: what one sample, and a list of samples, does to a receiver: document 01, "Reader, step by step". Its `moment` is
 -- our slot: 0 the start bit, 1 to 8 the data bits, 9 the stop bit.
 -- Assumes nothing.
-use mathlib.Core.Bool.{Bool, cond, not, _&&_}
+use mathlib.Core.Bool.{Bool, false, cond, not, _&&_}
 use mathlib.Core.List.{List, [], _∷_, _++_}
 use Prim.Native.Nat.{ℕ, _+_, _-_, _^_, min}
 use lib.Dec.{leb, eqb}
@@ -71,6 +71,15 @@ taken slot byte d = cond (eqb slot 0) (startTaken d) (cond (leb slot 8) (dataTak
 unfoldable pub nextOf : Stage → ℕ → Decision → Next
 nextOf Searching run d = cond (eqb run 32 && d .space) (quiet (Waiting 16 0 0)) (quiet Searching)
 nextOf (Waiting wait slot byte) run d = cond (eqb (wait - 1) 0) (taken slot byte d) (quiet (Waiting (wait - 1) slot byte))
+
+-- the same in two parts, as the code has it: whether a wait ends with the sample, and then what it ends in
+abbrev pub isDue : Stage → Bool
+isDue Searching = false
+isDue (Waiting wait slot byte) = eqb (wait - 1) 0
+
+abbrev pub waitOver : Stage → Decision → Next
+waitOver Searching d = quiet Searching
+waitOver (Waiting wait slot byte) d = taken slot byte d
 
 -- ---- what a decision moves: the run and the stage
 

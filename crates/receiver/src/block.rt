@@ -100,11 +100,15 @@ fn scan(
         let end = k + 32;
         let d = energy::decide(&source[k..end], c0, s0, c1, s1);
         run = control::run_after(run, d.good);
-        let n = control::next(stage, run, d);
-        let after = n.stage;
-        let event = n.event;
-        count = put(events, count, event);
-        stage = after;
+        if control::is_due(stage) {
+            let n = control::take(stage, d);
+            let after = n.stage;
+            let event = n.event;
+            count = put(events, count, event);
+            stage = after;
+        } else {
+            stage = control::go_on(stage, run, d);
+        }
         k += 1;
     }
     Progress { run, stage, count }

@@ -1,9 +1,9 @@
 // The run and the stage: what a decision does to them, and their ranges.
 ghost use mathlib.Core.Path.{_≡_};
-ghost use mathlib.Core.Bool.{true};
+ghost use mathlib.Core.Bool.{true, false};
 ghost use Prim.Native.Nat.{_-_, _^_, _≤_, _<_};
 ghost use Rattle.receiver.specs.declared.Stage.the-variants.{Searching, Waiting};
-ghost use Rattle.receiver.specs.Step.{quiet, report, runAfter, gathered, taken, nextOf};
+ghost use Rattle.receiver.specs.Step.{quiet, report, runAfter, gathered, taken, nextOf, isDue, waitOver};
 ghost use Rattle.receiver.specs.Calls.{isWait, isSlot, isStage, isControl};
 use super::Decision;
 use super::Event;
@@ -22,49 +22,72 @@ pub(crate) fn run_after(run: u8, good: bool) -> u8
     }
 }
 
-// The stage after a sample, from the run after it.
-pub(crate) fn next(stage: Stage, run: u8, d: Decision) -> Next
-    requires { ⌜ isStage stage ≡ true ⌝ }
-    ensures { λ r. ⌜ r ≡ nextOf stage run d ⌝ }
+// The wait ends with this sample.
+pub(crate) fn is_due(stage: Stage) -> bool
+    ensures { λ r. ⌜ r ≡ isDue stage ⌝ }
+{
+    match stage {
+        Stage::Searching => false,
+        Stage::Waiting { wait, slot, byte } => wait < 2,
+    }
+}
+
+// The stage after a sample at which no wait ends, from the run after it. There is no event.
+pub(crate) fn go_on(stage: Stage, run: u8, d: Decision) -> Stage
+    requires { ⌜ isDue stage ≡ false ⌝ }
+    ensures { λ r. ⌜ quiet r ≡ nextOf stage run d ⌝ }
 {
     match stage {
         Stage::Searching => search(run, d),
-        Stage::Waiting { wait, slot, byte } => {
-            if 1 < wait {
-                waiting(wait - 1, slot, byte)
-            } else {
-                take(slot, byte, d)
-            }
-        }
+        Stage::Waiting { wait, slot, byte } => Stage::Waiting {
+            wait: wait - 1,
+            slot,
+            byte,
+        },
     }
 }
 
 // A start bit is looked for once the carrier has stood for 32 samples.
-fn search(run: u8, d: Decision) -> Next
-    ensures { λ r. ⌜ r ≡ nextOf Searching run d ⌝ }
+fn search(run: u8, d: Decision) -> Stage
+    ensures { λ r. ⌜ quiet r ≡ nextOf Searching run d ⌝ }
 {
     if run == 32 && d.space {
-        waiting(16, 0, 0)
+        Stage::Waiting {
+            wait: 16,
+            slot: 0,
+            byte: 0,
+        }
     } else {
-        searching()
+        Stage::Searching
+    }
+}
+
+// The stage after a sample at which a wait ends, and the event. A search waits for nothing, and goes on.
+pub(crate) fn take(stage: Stage, d: Decision) -> Next
+    requires { ⌜ isStage stage ≡ true ⌝ }
+    ensures { λ r. ⌜ r ≡ waitOver stage d ⌝ }
+{
+    match stage {
+        Stage::Searching => searching(),
+        Stage::Waiting { wait, slot, byte } => take_slot(slot, byte, d),
     }
 }
 
 // The slot that was waited for is taken.
-fn take(slot: u8, byte: u8, d: Decision) -> Next
+fn take_slot(slot: u8, byte: u8, d: Decision) -> Next
     requires { ⌜ isSlot slot byte ≡ true ⌝ }
     ensures { λ r. ⌜ r ≡ taken slot byte d ⌝ }
 {
     if slot == 0 {
         if d.good && d.space {
-            waiting(32, 1, 0)
+            waiting(1, 0)
         } else {
             searching()
         }
     } else if !d.good {
         reporting(257)
     } else if slot <= 8 {
-        waiting(32, slot + 1, gather(slot, byte, d.space))
+        waiting(slot + 1, gather(slot, byte, d.space))
     } else if d.space {
         reporting(256)
     } else {
@@ -88,11 +111,16 @@ fn weight(slot: u8) -> u8
     1u8 << (slot - 1)
 }
 
-fn waiting(wait: u8, slot: u8, byte: u8) -> Next
-    ensures { λ r. ⌜ r ≡ quiet (Waiting wait slot byte) ⌝ }
+// The next slot is a bit, 32 samples, away.
+fn waiting(slot: u8, byte: u8) -> Next
+    ensures { λ r. ⌜ r ≡ quiet (Waiting 32 slot byte) ⌝ }
 {
     Next {
-        stage: Stage::Waiting { wait, slot, byte },
+        stage: Stage::Waiting {
+            wait: 32,
+            slot,
+            byte,
+        },
         event: Event::Nothing,
     }
 }

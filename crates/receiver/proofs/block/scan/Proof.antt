@@ -1,10 +1,15 @@
 -- `receiver::block::scan` meets its contract: each turn is one window.
 -- Assumes nothing.
+use mathlib.Core.Path.{refl, sym, _∙_}
+use mathlib.Core.Logic.{⊎-elim}
 use Prim.Native.Nat.{_-_}
+use native.Mathlib.Nat.{add-zero}
 use native.Mathlib.Omega.{arith}
 use borrow.Author.Needs.{needs}
 use lib.ListN.{length}
 use Rattle.receiver.specs.Energy.{decisionBy}
+use Rattle.receiver.specs.Step.{quiet}
+use Rattle.receiver.proofs.Rules.{wait-over}
 use Rattle.receiver.proofs.Ranges.{in-control}
 use Rattle.receiver.proofs.Scanning.{Scanning, scanning-start, scanning-room, scanning-more, scanning-end, part-window}
 use Rattle.receiver.proofs.block.scan.Statement.{statement}
@@ -48,13 +53,20 @@ decide-requires c κs =
 run-after-requires : tie.Need-run-after-requires Inv-loop μ-loop
 run-after-requires c κs = in-control _ (c .before .before .before .loop .inv .control) .run
 
-next-requires : tie.Need-next-requires Inv-loop μ-loop
-next-requires c κs = in-control _ (c .before .before .before .before .loop .inv .control) .stage
+is-due-requires : tie.Need-is-due-requires Inv-loop μ-loop
+is-due-requires c κs = tt
+
+take-requires : tie.Need-take-requires Inv-loop μ-loop
+take-requires c κs = in-control _ (c .before .before .before .before .before .before .loop .inv .control) .stage
 
 put-requires : tie.Need-put-requires Inv-loop μ-loop
 put-requires c κs =
-    let s = c .before .before .before .before .before .before .before .before in
-    scanning-room _ _ _ _ (c .before .before .before .before .before .before .loop .inv) (c .before .before .before .before .before .loop-test .taken) _ _ _ (c .before .before .before .decide .ensures) (c .before .before .run-after .ensures) (c .before .next .ensures) (s .pre .1 .1 .1)
+    let s = c .before .before .before .before .before .before .before .before .before .before in
+    scanning-room _ _ _ _ (c .before .before .before .before .before .before .before .before .loop .inv) (c .before .before .before .before .before .before .before .loop-test .taken) _ _ _ (c .before .before .before .before .before .decide .ensures) (c .before .before .before .before .run-after .ensures)
+    (c .before .take .ensures ∙ sym (wait-over _ _ _ (sym (c .before .before .before .is-due .ensures) ∙ c .before .before .if1 .taken))) (s .pre .1 .1 .1)
+
+go-on-requires : tie.Need-go-on-requires Inv-loop μ-loop
+go-on-requires c κs = sym (c .before .is-due .ensures) ∙ c .if1 .left
 
 add-k : tie.Need-add-k Inv-loop μ-loop
 add-k c = search needs
@@ -64,9 +76,19 @@ loop-less c = omega arith
 
 loop-again : tie.Need-loop-again Inv-loop μ-loop
 loop-again c =
-    let u = c .before .before in
-    scanning-more _ _ _ _ (u .before .before .before .before .before .before .before .loop .inv) (u .before .before .before .before .before .before .loop-test .taken) _ _ _ (u .before .before .before .before .decide .ensures) (u .before .before .before .run-after .ensures) (u .before .before .next .ensures) _ _
-    (u .put .ensures .0) (u .put .ensures .1)
+    let l = c .before .before .before .before .before .before .loop in
+    let more = c .before .before .before .before .before .loop-test .taken in
+    let decided = c .before .before .before .decide .ensures in
+    let run = c .before .before .run-after .ensures in
+    ⊎-elim
+    (λ w.
+    rw (w .6, w .7, w .8)
+    (scanning-more _ _ _ _ (l .inv) more _ _ (w .1 .result) decided run
+    (w .1 .ensures ∙ sym (wait-over _ _ _ (sym (c .before .is-due .ensures) ∙ w .0 .taken))) _ _ (w .3 .ensures .0) (w .3 .ensures .1)))
+    (λ w.
+    rw (w .2, w .3, w .4)
+    (scanning-more _ _ _ _ (l .inv) more _ _ (quiet (w .1 .result)) decided run (w .1 .ensures) (l .events) (l .count) (sym (add-zero (l .count))) refl))
+    (c .if1 .came)
 
 same-length : tie.Need-same-length Inv-loop μ-loop
 same-length c = c .before .loop .inv .filled .long
@@ -75,4 +97,4 @@ returns : tie.Need-returns Inv-loop μ-loop
 returns c = scanning-end _ _ _ _ (c .before .loop .inv) (c .loop-test .left)
 
 pub scan-spec : {M : Type 1} → statement M
-scan-spec = tie.close (tie.spec Inv-loop μ-loop loop-holds add-loop add-end mul-decide sub-decide part-decide-start part-decide-end decide-requires run-after-requires next-requires put-requires add-k loop-less loop-again same-length returns)
+scan-spec = tie.close (tie.spec Inv-loop μ-loop loop-holds add-loop add-end mul-decide sub-decide part-decide-start part-decide-end decide-requires run-after-requires is-due-requires take-requires put-requires go-on-requires add-k loop-less loop-again same-length returns)

@@ -1,26 +1,19 @@
 -- `receiver::control::search` meets its contract, by the cases of the search.
 -- Assumes nothing.
-use mathlib.Core.Path.{sym, _∙_}
+use mathlib.Core.Path.{sym}
 use mathlib.Core.Logic.{⊎-elim}
 use Rattle.receiver.proofs.Rules.{search-found, search-short, search-mark}
 use Rattle.receiver.proofs.control.search.Statement.{statement}
 use Rattle.receiver.proofs.control.search.Tie as tie
 
-waiting-requires : tie.Need-waiting-requires
-waiting-requires c κs = tt
-
-searching-requires : tie.Need-searching-requires
-searching-requires c κs = tt
-
 returns : tie.Need-returns
-returns c = c .waiting .ensures ∙ sym (search-found (c .before .before .before .args .run) (c .before .before .before .args .d) (c .before .before .if1 .taken) (c .before .if2 .taken))
+returns c = sym (search-found (c .before .before .args .run) (c .before .before .args .d) (c .before .if1 .taken) (c .if2 .taken))
 
 returns-2 : tie.Need-returns-2
 returns-2 c =
-    let a = c .before .before .args in
-    c .searching .ensures
-    ∙ sym
-    (⊎-elim (λ w. search-mark (a .run) (a .d) (w .0 .taken) (w .1 .left)) (λ w. search-short (a .run) (a .d) (w .left)) (c .before .if1 .came))
+    let a = c .before .args in
+    sym
+    (⊎-elim (λ w. search-mark (a .run) (a .d) (w .0 .taken) (w .1 .left)) (λ w. search-short (a .run) (a .d) (w .left)) (c .if1 .came))
 
 pub search-spec : {M : Type 1} → statement M
-search-spec = tie.close (tie.spec waiting-requires searching-requires returns returns-2)
+search-spec = tie.close (tie.spec returns returns-2)
