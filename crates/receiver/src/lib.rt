@@ -85,6 +85,7 @@ impl Receiver {
         ensures { λ r. ⌜ outcome (r .answer) (r .receiver) (now (events .exit))
             ≡ blockOf self (now (samples .entry)) (now (events .entry)) ⌝ }
     {
+        let places = samples.len() / 48 + 1;
         if !self.in_range() {
             return self.refused(2);
         }
@@ -94,7 +95,7 @@ impl Receiver {
         if !tones::are_samples(samples) {
             return self.refused(5);
         }
-        if events.len() < samples.len() / 48 + 1 {
+        if events.len() < places {
             return self.refused(4);
         }
         block::read(self, samples, events)

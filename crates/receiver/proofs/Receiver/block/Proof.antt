@@ -11,6 +11,9 @@ use Rattle.receiver.proofs.Calls.{block-2, block-3, block-5, block-4, b
 use Rattle.receiver.proofs.Receiver.block.Statement.{statement}
 use Rattle.receiver.proofs.Receiver.block.Tie as tie
 
+add-places : tie.Need-add-places
+add-places c = omega arith
+
 in-range-requires : tie.Need-in-range-requires
 in-range-requires c κs = tt
 
@@ -53,9 +56,6 @@ returns-3 c =
 sound : (c : tie.Else3) → areSamples (c .before .before .before .before .before .before .args .samples .now) ≡ true
 sound c = sym (c .before .are-samples .ensures) ∙ not-false (c .before .are-samples .result) (c .if3 .left)
 
-add-if4 : tie.Need-add-if4
-add-if4 c = omega arith
-
 refused-requires-4 : tie.Need-refused-requires-4
 refused-requires-4 c κs = tt
 
@@ -78,4 +78,4 @@ returns-5 c =
     ∙ sym (block-0 (a .self) (a .samples .now) (a .events .now) (valid (c .before .before .before .before .before .before .before .before)) (c .before .before .before .before .before .before .before .if2 .left) (sound (c .before .before .before .before .before)) (c .before .before .before .before .if4 .left))
 
 pub block-spec : {M : Type 1} → statement M
-block-spec = tie.close (tie.spec in-range-requires refused-requires returns refused-requires-2 returns-2 are-samples-requires refused-requires-3 returns-3 add-if4 refused-requires-4 returns-4 read-requires same-length returns-5)
+block-spec = tie.close (tie.spec add-places in-range-requires refused-requires returns refused-requires-2 returns-2 are-samples-requires refused-requires-3 returns-3 refused-requires-4 returns-4 read-requires same-length returns-5)
