@@ -85,17 +85,19 @@ impl Receiver {
         ensures { λ r. ⌜ outcome (r .answer) (r .receiver) (now (events .exit))
             ≡ blockOf self (now (samples .entry)) (now (events .entry)) ⌝ }
     {
-        let places = samples.len() / 48 + 1;
-        if !self.in_range() {
+        let ranged = self.in_range();
+        let sound = tones::are_samples(samples);
+        let fits = samples.len() / 48 + 1 <= events.len();
+        if !ranged {
             return self.refused(2);
         }
         if 16384 < samples.len() {
             return self.refused(3);
         }
-        if !tones::are_samples(samples) {
+        if !sound {
             return self.refused(5);
         }
-        if events.len() < places {
+        if !fits {
             return self.refused(4);
         }
         block::read(self, samples, events)
