@@ -9,14 +9,9 @@ use lib.Dec.{eqb·suc-zero}
 use lib.ListN.{length, drop}
 use lib.Seq.{take-append-seam}
 use Rattle.calls.specs.Outcome.{Outcome, refused, accepted, isAccepted, front}
+use Rattle.calls.specs.Runs as runs
 use Rattle.calls.specs.Lists.{joined, stateAfter}
-
--- A run over a list of inputs: the state after it and what it gives.
-pub record RunLaws {S I A : Type 0} (after : S → List I → S) (gives : S → List I → List A) : Type 0 where
-  pub after-none : (s : S) → after s [] ≡ s
-  pub gives-none : (s : S) → gives s [] ≡ []
-  pub after-append : (s : S) (xs ys : List I) → after s (xs ++ ys) ≡ after (after s xs) ys
-  pub gives-append : (s : S) (xs ys : List I) → gives s (xs ++ ys) ≡ gives s xs ++ gives (after s xs) ys
+use Rattle.calls.proofs.Runs.{RunLaws}
 
 module _ {S I A : Type 0} (after : S → List I → S) (gives : S → List I → List A) (run : RunLaws after gives) where
   -- the inputs that a call takes: none if it is refused
@@ -42,7 +37,7 @@ module _ {S I A : Type 0} (after : S → List I → S) (gives : S → List I →
     inputsIn = joined rule (λ o c. inputs c)
 
     pub joined-state : (cs : List C) (s : S) → stateAfter rule s cs ≡ after s (inputsIn s cs)
-    unfolding joined stateAfter
+    unfolding runs.after runs.gives
     joined-state [] s = sym (run .after-none s)
     joined-state (c ∷ cs) s =
         joined-state cs (rule s c .state)
@@ -50,7 +45,7 @@ module _ {S I A : Type 0} (after : S → List I → S) (gives : S → List I →
         ∙ sym (run .after-append s (taken (rule s c) (inputs c)) (inputsIn (rule s c .state) cs))
 
     pub joined-front : (cs : List C) (s : S) → joined rule (λ o c. front o) s cs ≡ gives s (inputsIn s cs)
-    unfolding joined
+    unfolding runs.gives
     joined-front [] s = sym (run .gives-none s)
     joined-front (c ∷ cs) s =
         ap₂ (λ (l m : List A). l ++ m) (law s c .wrote)

@@ -2,16 +2,19 @@
 -- that it is handed.
 -- Assumes nothing.
 use mathlib.Core.Bool.{cond}
-use mathlib.Core.List.{List, [], _∷_, _++_}
+use mathlib.Core.List.{List, []}
 use Rattle.calls.specs.Outcome.{Outcome, isAccepted}
+use Rattle.calls.specs.Runs.{after, gives}
 
 module _ {S A C : Type 0} (rule : S → C → Outcome S A) where
-  -- what the accepted calls give, joined in order; each call is handed the state that the call before it, refused or not, gave
-  unfoldable pub joined : {B : Type 0} → (Outcome S A → C → List B) → S → List C → List B
-  joined pick s [] = []
-  joined pick s (c ∷ cs) = cond (isAccepted (rule s c)) (pick (rule s c) c) [] ++ joined pick (rule s c .state) cs
+  -- each call is handed the state that the call before it, refused or not, gave
+  abbrev handedOn : S → C → S
+  handedOn s c = rule s c .state
+
+  -- what the accepted calls give, joined in order
+  abbrev pub joined : {B : Type 0} → (Outcome S A → C → List B) → S → List C → List B
+  joined pick = gives handedOn (λ s c. cond (isAccepted (rule s c)) (pick (rule s c) c) [])
 
   -- the state after all of them
-  unfoldable pub stateAfter : S → List C → S
-  stateAfter s [] = s
-  stateAfter s (c ∷ cs) = stateAfter (rule s c .state) cs
+  abbrev pub stateAfter : S → List C → S
+  stateAfter = after handedOn

@@ -14,6 +14,7 @@ use lib.ListN.{length, take, drop, length-append, length-drop}
 use lib.Seq.{sets, length-sets, length-take-le, take-all, take-at, drop-append-le, drop-append-add}
 use Rattle.integers.proofs.Lists.{sets-append, sets-front, sets-whole, drop-take}
 use Rattle.calls.specs.Outcome.{outcome, accepted}
+use Rattle.calls.proofs.Runs.{run-laws}
 use Rattle.tones.specs.Bands.{tonesOf}
 use Rattle.tones.specs.Samples.{areSamples}
 use Rattle.tones.proofs.Samples.{samples-append, samples-take, samples-drop}
@@ -21,12 +22,12 @@ use Rattle.receiver.specs.declared.Decision.{Decision}
 use Rattle.receiver.specs.declared.Progress.{Progress}
 use Rattle.receiver.specs.declared.Receiver.{Receiver}
 use Rattle.receiver.specs.Energy.{decisionOf}
-use Rattle.receiver.specs.Step.{Control, controlOf, stateAfter, eventsAfter}
+use Rattle.receiver.specs.Step.{Control, controlAfter, reported, controlOf, stateAfter, eventsAfter}
 use Rattle.receiver.specs.Windows.{decisions, follow, reports, controlIn, progressed, lastWindow}
 use Rattle.receiver.specs.Calls.{isControl, inRange, placesFor}
 use Rattle.receiver.proofs.Ranges.{in-range, follow-kept}
 use Rattle.receiver.proofs.Counting.{events-few}
-use Rattle.receiver.proofs.Windows.{decisions-seam, follow-append, reports-append, decisionsOver, by-windows, band-after, window-after}
+use Rattle.receiver.proofs.Windows.{decisions-seam, decisionsOver, by-windows, band-after, window-after}
 
 -- ---- the lists that the code makes
 
@@ -144,10 +145,10 @@ module _ {s : Receiver} {xs : List ℤ} {lent : List ℕ} {n : ℕ} {head : List
         ∙ ap (λ (l : List ℤ). decisions decide l ++ late) (sym source-is)
 
     whole-control : controlOf (stateAfter s xs) ≡ follow between late
-    whole-control = by-windows s xs (a .long) .control ∙ ap (follow (controlOf s)) seam ∙ follow-append (controlOf s) early late
+    whole-control = by-windows s xs (a .long) .control ∙ ap (follow (controlOf s)) seam ∙ run-laws controlAfter reported .after-append (controlOf s) early late
 
     whole-events : eventsAfter s xs ≡ reports (controlOf s) early ++ reports between late
-    whole-events = by-windows s xs (a .long) .events ∙ ap (reports (controlOf s)) seam ∙ reports-append (controlOf s) early late
+    whole-events = by-windows s xs (a .long) .events ∙ ap (reports (controlOf s)) seam ∙ run-laws controlAfter reported .gives-append (controlOf s) early late
 
     whole-count : length (eventsAfter s xs) ≡ length (reports (controlOf s) early) + length (reports between late)
     whole-count = ap length whole-events ∙ length-append (reports (controlOf s) early) (reports between late)

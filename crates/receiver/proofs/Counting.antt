@@ -11,12 +11,13 @@ use lib.Dec.{leb, eqb}
 use lib.IntN.{ℤ}
 use lib.ListN.{length, length-append}
 use Rattle.integers.proofs.Tests.{cond-case, cond-split}
+use Rattle.calls.specs.Runs.{gives}
 use Rattle.receiver.specs.declared.Decision.{Decision}
 use Rattle.receiver.specs.declared.Next.{Next}
 use Rattle.receiver.specs.declared.Stage.{Stage}
 use Rattle.receiver.specs.declared.Stage.the-variants.{Searching, Waiting}
 use Rattle.receiver.specs.declared.Receiver.{Receiver}
-use Rattle.receiver.specs.Step.{numbers, runAfter, taken, nextOf, Control, controlAfter, reported, controlOf, decisionAt, stepOf, eventsAfter}
+use Rattle.receiver.specs.Step.{numbers, runAfter, taken, nextOf, Control, controlAfter, reported, controlOf, decisionAt, stepOf, eventsAt, eventsAfter}
 use Rattle.receiver.specs.Calls.{isStage, inRange, placesFor}
 use Rattle.receiver.proofs.Ranges.{wait-low, stage-wait, in-control, in-range}
 
@@ -60,7 +61,7 @@ unfolding controlAfter reported
 control-slow c d = next-slow (c .stage) (runAfter (c .run) (d .good)) d
 
 events-slow : (s : Receiver) (xs : List ℤ) → 49 * length (eventsAfter s xs) ≤ progress (s .stage) + length xs
-unfolding eventsAfter stepOf
+unfolding gives stepOf eventsAt
 events-slow s [] = omega arith
 events-slow s (x ∷ xs) =
     omega (

@@ -10,23 +10,23 @@ use lib.IntN.{ℤ}
 use lib.ListN.{length, drop}
 use lib.Seq.{take-append-seam}
 use Rattle.calls.specs.Outcome.{Outcome, refused, accepted, isAccepted, front}
+use Rattle.calls.specs.Runs.{after}
 use Rattle.calls.specs.Lists as lists
-use Rattle.calls.proofs.Lists.{RunLaws, IsRun, refused-run, accepted-run, joined-state, joined-front}
+use Rattle.calls.proofs.Runs.{RunLaws, run-laws}
+use Rattle.calls.proofs.Lists.{IsRun, refused-run, accepted-run, joined-state, joined-front}
 use Rattle.tones.specs.Samples.{areSamples}
 use Rattle.tones.proofs.Samples.{samples-append}
 use Rattle.receiver.specs.declared.Receiver.{Receiver}
-use Rattle.receiver.specs.Step.{stateAfter, eventsAfter}
+use Rattle.receiver.specs.Step.{stepOf, eventsAt, stateAfter, eventsAfter}
 use Rattle.receiver.specs.Calls.{inRange, placesFor, blockOf}
 use Rattle.receiver.specs.Lists.{Call, callOf, samplesRead, eventsRead, OneReading, TwoBlocks}
 use Rattle.receiver.proofs.Ranges.{state-kept}
 use Rattle.receiver.proofs.Counting.{events-few}
-use Rattle.receiver.proofs.Windows.{state-append, events-append}
 use Rattle.receiver.proofs.Calls.{block-0, block-case}
 
 -- reading samples from a state is a run over them
 reading-laws : RunLaws stateAfter eventsAfter
-unfolding stateAfter eventsAfter
-reading-laws = record { after-none = λ s. refl; gives-none = λ s. refl; after-append = state-append; gives-append = events-append }
+reading-laws = run-laws stepOf eventsAt
 
 -- each call is one
 refuses : (s : Receiver) (c : Call) (n : ℕ) → IsRun stateAfter eventsAfter reading-laws (c .samples) s (refused (suc n) s (c .lent))
@@ -43,7 +43,7 @@ call-kept s c h =
     block-case s (c .samples) (c .lent) (λ (o : Outcome Receiver ℕ). inRange (o .state) ≡ true) h h h h (λ r a. state-kept s (c .samples) r a)
 
 calls-kept : (s : Receiver) (calls : List Call) → inRange s ≡ true → inRange (lists.stateAfter callOf s calls) ≡ true
-unfolding lists.stateAfter
+unfolding after
 calls-kept s [] h = h
 calls-kept s (c ∷ calls) h = calls-kept (callOf s c .state) calls (call-kept s c h)
 
@@ -105,11 +105,11 @@ module _ (s : Receiver) (one two : Call) (lent : List ℕ) (a : isAccepted (call
       record {
         accepted = ap isAccepted both;
         state =
-            ap (λ (o : Outcome Receiver ℕ). o .state) both ∙ state-append s xs ys
+            ap (λ (o : Outcome Receiver ℕ). o .state) both ∙ reading-laws .after-append s xs ys
             ∙ sym (second .state ∙ ap (λ (t : Receiver). stateAfter t ys) (first .state));
         events =
             ap front both
             ∙ take-append-seam (eventsAfter s (xs ++ ys)) (drop (length (eventsAfter s (xs ++ ys))) lent)
-            ∙ events-append s xs ys
+            ∙ reading-laws .gives-append s xs ys
             ∙ sym (ap₂ (λ (l m : List ℕ). l ++ m) (first .events) (second .events ∙ ap (λ (t : Receiver). eventsAfter t ys) (first .state)));
       }

@@ -11,6 +11,7 @@ use lib.Dec.{ltb, leb, eqb}
 use lib.IntN.{ℤ}
 use lib.ListN.{drop}
 use Rattle.integers.proofs.Tests.{cond-case, cond-split}
+use Rattle.calls.specs.Runs.{after}
 use Rattle.tones.specs.Bands.{isBand}
 use Rattle.tones.specs.Samples.{isSample, areSamples}
 use Rattle.tones.proofs.Samples.{samples-append, samples-drop}
@@ -123,7 +124,7 @@ control-kept c d h =
     and-intro (le-leb run 32 (run-kept (c .run) (d .good))) (next-kept (c .stage) run d (in-control c h .stage))
 
 pub follow-kept : (c : Control) (ds : List Decision) → isControl c ≡ true → isControl (follow c ds) ≡ true
-unfolding follow
+unfolding after
 follow-kept c [] h = h
 follow-kept c (d ∷ ds) h = follow-kept (controlAfter c d) ds (control-kept c d h)
 
@@ -155,7 +156,7 @@ step-kept s x h l =
     (control-kept (controlOf s) (decisionAt s x) (r .control)))
 
 pub state-kept : (s : Receiver) (xs : List ℤ) → inRange s ≡ true → areSamples xs ≡ true → inRange (stateAfter s xs) ≡ true
-unfolding stateAfter areSamples
+unfolding after areSamples
 state-kept s [] h l = h
 state-kept s (x ∷ xs) h l =
     state-kept (stepOf s x) xs (step-kept s x h (and-elim-left (isSample x) (areSamples xs) l)) (and-elim-right (isSample x) (areSamples xs) l)

@@ -8,6 +8,7 @@ use native.Mathlib.Omega.{arith}
 use lib.IntN.{ℤ}
 use lib.ListN.{length, take, drop, length-append, length-drop, length-take}
 use lib.Seq.{sets, drop-drop}
+use Rattle.calls.specs.Runs.{after, gives}
 use Rattle.calls.proofs.Filling.{Filling, filling-start, filling-more, filling-end}
 use Rattle.tones.specs.Samples.{areSamples}
 use Rattle.tones.proofs.Samples.{samples-take, samples-drop}
@@ -63,8 +64,8 @@ module _ (decide : List ℤ → Decision) (source : List ℤ) (lent : List ℕ) 
     -- one window
     module _ (h : k + 32 ≤ length source) (d : Decision) (run : ℕ) (n : Next)
         (ed : d ≡ decide (part source k)) (er : run ≡ runAfter (now .run) (d .good)) (en : n ≡ nextOf (now .stage) run d) where
-      abbrev after : Control
-      after = record { run = run; stage = n .stage }
+      abbrev onward : Control
+      onward = record { run = run; stage = n .stage }
 
       next : decisions decide (drop k source) ≡ d ∷ decisions decide (drop (k + 1) source)
       next =
@@ -72,7 +73,7 @@ module _ (decide : List ℤ → Decision) (source : List ℤ) (lent : List ℕ) 
           ∙ ap (λ (e : Decision). e ∷ decisions decide (drop 1 (drop k source))) (sym (ed ∙ ap decide (part-32 source k)))
           ∙ ap (λ (l : List ℤ). d ∷ decisions decide l) (drop-drop 1 k source)
 
-      moved : controlAfter (controlIn now) d ≡ after
+      moved : controlAfter (controlIn now) d ≡ onward
       unfolding controlAfter
       moved = rw (en, er)
 
@@ -80,20 +81,20 @@ module _ (decide : List ℤ → Decision) (source : List ℤ) (lent : List ℕ) 
       unfolding reported
       told = rw (en, er)
 
-      reached-next : follow after (decisions decide (drop (k + 1) source)) ≡ follow (controlIn now) (decisions decide (drop k source))
-      unfolding follow
+      reached-next : follow onward (decisions decide (drop (k + 1) source)) ≡ follow (controlIn now) (decisions decide (drop k source))
+      unfolding after
       reached-next =
           sym (ap (follow (controlIn now)) next ∙ ap (λ (c : Control). follow c (decisions decide (drop (k + 1) source))) moved)
 
-      rest-next : rest (controlIn now) k ≡ numbers (n .event) ++ rest after (k + 1)
-      unfolding reports
+      rest-next : rest (controlIn now) k ≡ numbers (n .event) ++ rest onward (k + 1)
+      unfolding gives
       rest-next =
           ap (reports (controlIn now)) next
           ∙ ap (λ (c : Control). reported (controlIn now) d ++ rest c (k + 1)) moved
-          ∙ ap (λ (l : List ℕ). l ++ rest after (k + 1)) told
+          ∙ ap (λ (l : List ℕ). l ++ rest onward (k + 1)) told
 
-      count-next : length (rest (controlIn now) k) ≡ length (numbers (n .event)) + length (rest after (k + 1))
-      count-next = ap length rest-next ∙ length-append (numbers (n .event)) (rest after (k + 1))
+      count-next : length (rest (controlIn now) k) ≡ length (numbers (n .event)) + length (rest onward (k + 1))
+      count-next = ap length rest-next ∙ length-append (numbers (n .event)) (rest onward (k + 1))
 
       pub scanning-room : p .count + length (reports (controlIn p) (decisions decide source)) ≤ length lent
           → now .count + length (numbers (n .event)) ≤ length events
@@ -108,7 +109,7 @@ module _ (decide : List ℤ → Decision) (source : List ℤ) (lent : List ℕ) 
             reached = reached-next ∙ s .reached;
             filled =
                 rw (ec, ee)
-                (filling-more (numbers (n .event)) (rest after (k + 1))
+                (filling-more (numbers (n .event)) (rest onward (k + 1))
                 (rw rest-next at (s .filled)));
             counted = omega (arith, ec, count-next, s .counted);
           }
@@ -119,11 +120,11 @@ module _ (decide : List ℤ → Decision) (source : List ℤ) (lent : List ℕ) 
       last = decisions-none decide (drop k source) (omega (arith, length-drop k source))
 
       gone : rest (controlIn now) k ≡ []
-      unfolding reports
+      unfolding gives
       gone = ap (reports (controlIn now)) last
 
       at-end : controlIn now ≡ follow (controlIn p) (decisions decide source)
-      unfolding follow
+      unfolding after
       at-end = sym (ap (follow (controlIn now)) last) ∙ s .reached
 
       counted-end : now .count ≡ p .count + length (reports (controlIn p) (decisions decide source))

@@ -1,5 +1,5 @@
--- The step rule by windows: reading samples is following the decisions at the windows that they complete. From that, how two lists
--- of samples join, and how the windows of a block fall into those that reach back behind it and its own.
+-- The step rule by windows: reading samples is following the decisions at the windows that they complete. And how the windows of a
+-- block fall into those that reach back behind it and its own.
 -- Assumes nothing.
 use mathlib.Core.Path.{_≡_, refl, sym, ap, _∙_}
 use mathlib.Core.List.{List, [], _∷_, _++_, append-assoc, append-nil}
@@ -10,11 +10,12 @@ use borrow.Author.Tests.{lt-ltb, le-ltb}
 use lib.IntN.{ℤ}
 use lib.ListN.{length, take, drop, length-append, length-drop, take-append-drop}
 use lib.Seq.{take-all, take-at, append-snoc, drop-append-le, drop-drop, take-append-le, length-take-le}
+use Rattle.calls.specs.Runs.{after, gives}
 use Rattle.tones.specs.Bands.{tonesOf}
 use Rattle.receiver.specs.declared.Decision.{Decision}
 use Rattle.receiver.specs.declared.Receiver.{Receiver}
 use Rattle.receiver.specs.Energy.{decisionOf}
-use Rattle.receiver.specs.Step.{Control, controlAfter, reported, controlOf, entered, stepOf, stateAfter, eventsAfter}
+use Rattle.receiver.specs.Step.{reported, controlOf, entered, decisionAt, stepOf, eventsAt, stateAfter, eventsAfter}
 use Rattle.receiver.specs.Windows.{decisions, follow, reports}
 
 -- ---- the decisions of a list
@@ -63,20 +64,6 @@ module _ (decide : List ℤ → Decision) where
       ∙ ap (λ (w : List ℤ). decide w ∷ decisions decide (drop 1 (entered window x ++ xs))) (take-at (entered window x) xs 32 l)
       ∙ ap (λ (w : List ℤ). decide (entered window x) ∷ decisions decide w) (drop-append-le 1 (entered window x) xs (omega arith))
 
--- ---- decisions one behind the other
-
-pub follow-append : (c : Control) (ds es : List Decision) → follow c (ds ++ es) ≡ follow (follow c ds) es
-unfolding follow
-follow-append c [] es = refl
-follow-append c (d ∷ ds) es = follow-append (controlAfter c d) ds es
-
-pub reports-append : (c : Control) (ds es : List Decision) → reports c (ds ++ es) ≡ reports c ds ++ reports (follow c ds) es
-unfolding follow reports
-reports-append c [] es = refl
-reports-append c (d ∷ ds) es =
-    ap (λ (l : List ℕ). reported c d ++ l) (reports-append (controlAfter c d) ds es)
-    ∙ sym (append-assoc (reported c d) (reports (controlAfter c d) ds) (reports (follow (controlAfter c d) ds) es))
-
 -- ---- the step rule
 
 -- the decisions at the windows that the samples xs complete
@@ -88,7 +75,7 @@ pub record ByWindows (s : Receiver) (xs : List ℤ) : Type 0 where
   pub events : eventsAfter s xs ≡ reports (controlOf s) (decisionsOver s xs)
 
 pub by-windows : (s : Receiver) (xs : List ℤ) → length (s .window) ≡ 32 → ByWindows s xs
-unfolding stepOf stateAfter eventsAfter follow reports
+unfolding stepOf eventsAt after gives
 by-windows s [] e =
     let none : decisionsOver s [] ≡ [] =
     ap (decisions (decisionOf (tonesOf (s .band)))) (append-nil (drop 1 (s .window)))
@@ -101,18 +88,18 @@ by-windows s (x ∷ xs) e =
     record {
       control = rest .control ∙ ap (follow (controlOf s)) (sym more);
       events =
-          ap (λ (l : List ℕ). reported (controlOf s) (decisionOf (tonesOf (s .band)) (entered (s .window) x)) ++ l) (rest .events)
+          ap (λ (l : List ℕ). reported (controlOf s) (decisionAt s x) ++ l) (rest .events)
           ∙ ap (reports (controlOf s)) (sym more);
     }
 
 pub band-after : (s : Receiver) (xs : List ℤ) → stateAfter s xs .band ≡ s .band
-unfolding stateAfter stepOf
+unfolding after stepOf
 band-after s [] = refl
 band-after s (x ∷ xs) = band-after (stepOf s x) xs
 
 -- the window after the samples is the end of the old one and the samples
 pub window-after : (s : Receiver) (xs : List ℤ) → length (s .window) ≡ 32 → stateAfter s xs .window ≡ drop (length xs) (s .window ++ xs)
-unfolding stateAfter stepOf
+unfolding after stepOf
 window-after s [] e = sym (append-nil (s .window))
 window-after s (x ∷ xs) e =
     let one : 1 + length xs ≡ suc (length xs) = omega arith in
@@ -120,18 +107,3 @@ window-after s (x ∷ xs) e =
     ∙ ap (drop (length xs)) (append-snoc (drop 1 (s .window)) x xs ∙ sym (drop-append-le 1 (s .window) (x ∷ xs) (omega arith)))
     ∙ drop-drop (length xs) 1 (s .window ++ x ∷ xs)
     ∙ ap (λ (n : ℕ). drop n (s .window ++ x ∷ xs)) one
-
--- ---- samples one behind the other
-
-pub state-append : (s : Receiver) (xs ys : List ℤ) → stateAfter s (xs ++ ys) ≡ stateAfter (stateAfter s xs) ys
-unfolding stateAfter
-state-append s [] ys = refl
-state-append s (x ∷ xs) ys = state-append (stepOf s x) xs ys
-
-pub events-append : (s : Receiver) (xs ys : List ℤ) → eventsAfter s (xs ++ ys) ≡ eventsAfter s xs ++ eventsAfter (stateAfter s xs) ys
-unfolding stateAfter eventsAfter
-events-append s [] ys = refl
-events-append s (x ∷ xs) ys =
-    let es : List ℕ = reported (controlOf s) (decisionOf (tonesOf (s .band)) (entered (s .window) x)) in
-    ap (λ (l : List ℕ). es ++ l) (events-append (stepOf s x) xs ys)
-    ∙ sym (append-assoc es (eventsAfter (stepOf s x) xs) (eventsAfter (stateAfter (stepOf s x) xs) ys))

@@ -7,6 +7,7 @@ use Prim.Native.Nat.{ℕ, _+_, _-_, _^_, min}
 use lib.Dec.{leb, eqb}
 use lib.IntN.{ℤ}
 use lib.ListN.{drop}
+use Rattle.calls.specs.Runs.{after, gives}
 use Rattle.tones.specs.Bands.{tonesOf}
 use Rattle.receiver.specs.declared.Decision.{Decision}
 use Rattle.receiver.specs.declared.Stage.{Stage}
@@ -111,12 +112,14 @@ stepOf s x =
     let c : Control = controlAfter (controlOf s) (decisionAt s x) in
     record { band = s .band; window = entered (s .window) x; run = c .run; stage = c .stage }
 
+-- the events of the sample x
+unfoldable pub eventsAt : Receiver → ℤ → List ℕ
+eventsAt s x = reported (controlOf s) (decisionAt s x)
+
 -- ---- a list of samples: the state after it, and the events in order
 
-unfoldable pub stateAfter : Receiver → List ℤ → Receiver
-stateAfter s [] = s
-stateAfter s (x ∷ xs) = stateAfter (stepOf s x) xs
+abbrev pub stateAfter : Receiver → List ℤ → Receiver
+stateAfter = after stepOf
 
-unfoldable pub eventsAfter : Receiver → List ℤ → List ℕ
-eventsAfter s [] = []
-eventsAfter s (x ∷ xs) = reported (controlOf s) (decisionAt s x) ++ eventsAfter (stepOf s x) xs
+abbrev pub eventsAfter : Receiver → List ℤ → List ℕ
+eventsAfter = gives stepOf eventsAt

@@ -2,11 +2,12 @@
 -- (proofs/Windows: `control-after`, `events-after`), which is how the code reads a block. The definitions are ours.
 -- Assumes nothing.
 use mathlib.Core.Bool.{cond}
-use mathlib.Core.List.{List, [], _∷_, _++_}
+use mathlib.Core.List.{List, [], _∷_}
 use Prim.Native.Nat.{ℕ, _+_, _-_}
 use lib.Dec.{ltb}
 use lib.IntN.{ℤ}
 use lib.ListN.{length, take, drop}
+use Rattle.calls.specs.Runs.{after, gives}
 use Rattle.receiver.specs.declared.Decision.{Decision}
 use Rattle.receiver.specs.declared.Progress.{Progress}
 use Rattle.receiver.specs.Step.{Control, controlAfter, reported}
@@ -17,13 +18,11 @@ decisions decide [] = []
 decisions decide (x ∷ xs) = cond (ltb (length xs) 31) [] (decide (take 32 (x ∷ xs)) ∷ decisions decide xs)
 
 -- run and stage after a list of decisions, and the events in order
-unfoldable pub follow : Control → List Decision → Control
-follow c [] = c
-follow c (d ∷ ds) = follow (controlAfter c d) ds
+abbrev pub follow : Control → List Decision → Control
+follow = after controlAfter
 
-unfoldable pub reports : Control → List Decision → List ℕ
-reports c [] = []
-reports c (d ∷ ds) = reported c d ++ reports (controlAfter c d) ds
+abbrev pub reports : Control → List Decision → List ℕ
+reports = gives controlAfter reported
 
 -- ---- the code's progress through a block: run, stage and the count of events written
 

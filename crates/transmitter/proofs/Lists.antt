@@ -11,7 +11,8 @@ use lib.IntN.{ℤ, pos}
 use lib.ListN.{length, getD}
 use Rattle.calls.specs.Outcome.{Outcome, refused}
 use Rattle.calls.specs.Lists.{stateAfter}
-use Rattle.calls.proofs.Lists.{RunLaws, IsRun, refused-run, accepted-run, joined-state, joined-front}
+use Rattle.calls.proofs.Runs.{RunLaws}
+use Rattle.calls.proofs.Lists.{IsRun, refused-run, accepted-run, joined-state, joined-front}
 use Rattle.tones.specs.Bands.{isBand, tonesOf}
 use Rattle.transmitter.specs.declared.Transmitter.{Transmitter}
 use Rattle.transmitter.specs.Samples.{send, phaseAfter, bitSteps}
