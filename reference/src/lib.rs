@@ -1,6 +1,6 @@
 //! A second modem to compare the first with: the sine, the transmitter and the
-//! receiver, written from document 01 and from decisions 1 to 3 of
-//! `docs/DECISIONS.md`, and from none of the product's code.
+//! receiver, written from document 01 and from none of the product's code.
+//! Decision 16 of `docs/DECISIONS.md` says what else was known.
 //! The tests in `tests/` compare it with the static library.
 //! `in_place` and `shifted_window` are the receiver again, written for speed;
 //! the benchmark measures the library beside them.
