@@ -82,7 +82,7 @@ fn refused(receiver: Receiver) -> Receiver {
     read(b"no place between", second, &good, &mut none)
 }
 
-// A state that no call gives is refused with 2.
+// A state that no call gives is refused with 2, and so is the state that the refused call gives back.
 pub(crate) fn hostile() {
     let state = Receiver {
         band: 1,
@@ -91,7 +91,8 @@ pub(crate) fn hostile() {
         stage: Stage::Searching,
     };
     let mut list = [9999u16; 1];
-    read(b"a state with run 33", state, &[0i16; 1], &mut list);
+    let same = read(b"a state with run 33", state, &[0i16; 1], &mut list);
+    read(b"the same again", same, &[0i16; 1], &mut list);
 }
 
 fn open_2() -> Receiver {

@@ -1,4 +1,4 @@
--- Answers and states from the numbers of their fields, so that an exported contract cites the same definitions.
+-- Answers and a transmitter's states from the numbers of their fields, so that an exported contract cites the same definitions.
 -- Assumes nothing.
 use Prim.Native.Nat.{ℕ}
 use Rattle.calls.specs.declared.Answer.{Answer}

@@ -1,4 +1,4 @@
--- A receiver's state as numbers, and a block call on them, so that an exported contract cites the same definitions.
+-- A receiver's state as numbers (decision 22), and a block call on them, so that an exported contract cites the same definitions.
 -- Assumes nothing.
 use mathlib.Core.Bool.{cond}
 use mathlib.Core.List.{List, [], _∷_}
@@ -21,23 +21,23 @@ stageNumbers (Waiting wait slot byte) = 1 ∷ wait ∷ slot ∷ byte ∷ []
 abbrev pub stageOf : List ℕ → Stage
 stageOf ns = cond (eqb (getD ns 0 0) 0) Searching (Waiting (getD ns 1 0) (getD ns 2 0) (getD ns 3 0))
 
-pub record Numbers : Type 0 where
+pub record StateNumbers : Type 0 where
   pub band : ℕ
   pub window : List ℤ
   pub run : ℕ
   pub stage : List ℕ
 
-abbrev pub numbers : ℕ → List ℤ → ℕ → List ℕ → Numbers
-numbers band window run stage = record { band = band; window = window; run = run; stage = stage }
+abbrev pub stateNumbers : ℕ → List ℤ → ℕ → List ℕ → StateNumbers
+stateNumbers band window run stage = record { band = band; window = window; run = run; stage = stage }
 
-abbrev pub numbersOf : Receiver → Numbers
-numbersOf s = numbers (s .band) (s .window) (s .run) (stageNumbers (s .stage))
+abbrev pub numbersOf : Receiver → StateNumbers
+numbersOf s = stateNumbers (s .band) (s .window) (s .run) (stageNumbers (s .stage))
 
-abbrev pub receiverOf : Numbers → Receiver
+abbrev pub receiverOf : StateNumbers → Receiver
 receiverOf n = record { band = n .band; window = n .window; run = n .run; stage = stageOf (n .stage) }
 
 -- a block call: an accepted one gives the numbers of the next state, and a refused one those that it was handed
-abbrev pub blockNumbers : Numbers → List ℤ → List ℕ → Outcome Numbers ℕ
+abbrev pub blockNumbers : StateNumbers → List ℤ → List ℕ → Outcome StateNumbers ℕ
 blockNumbers n xs lent =
     let o : Outcome Receiver ℕ = blockOf (receiverOf n) xs lent in
     record {

@@ -3,7 +3,7 @@ ghost use mathlib.Core.Path.{_≡_};
 ghost use Rattle.calls.specs.Outcome.{outcome};
 ghost use Rattle.receiver.specs.Calls.{openOf};
 ghost use Rattle.exports.specs.Numbers.{answer};
-ghost use Rattle.exports.specs.Receiving.{stageOf, stageNumbers, numbers, numbersOf, blockNumbers};
+ghost use Rattle.exports.specs.Receiving.{stageOf, stageNumbers, stateNumbers, numbersOf, blockNumbers};
 use receiver::Reading;
 use receiver::Receiver;
 use receiver::Stage;
@@ -18,7 +18,7 @@ pub extern "C" fn modem_receiver_open(
     stage: &mut [u8; 4],
 ) -> u8
     ensures { λ r. ⌜ (r ≡ openOf wanted .number)
-        × (numbers (now (band .exit)) (now (window .exit)) (now (run .exit)) (now (stage .exit)) ≡ numbersOf (openOf wanted .receiver)) ⌝ }
+        × (stateNumbers (now (band .exit)) (now (window .exit)) (now (run .exit)) (now (stage .exit)) ≡ numbersOf (openOf wanted .receiver)) ⌝ }
 {
     let o = Receiver::open(wanted);
     let r = o.receiver;
@@ -38,8 +38,8 @@ pub extern "C" fn modem_receiver_block(
     events: &mut [u16],
     count: &mut usize,
 ) -> u8
-    ensures { λ r. ⌜ outcome (answer r (now (count .exit))) (numbers (now (band .exit)) (now (window .exit)) (now (run .exit)) (now (stage .exit))) (now (events .exit))
-        ≡ blockNumbers (numbers (now (band .entry)) (now (window .entry)) (now (run .entry)) (now (stage .entry))) (now (samples .entry)) (now (events .entry)) ⌝ }
+    ensures { λ r. ⌜ outcome (answer r (now (count .exit))) (stateNumbers (now (band .exit)) (now (window .exit)) (now (run .exit)) (now (stage .exit))) (now (events .exit))
+        ≡ blockNumbers (stateNumbers (now (band .entry)) (now (window .entry)) (now (run .entry)) (now (stage .entry))) (now (samples .entry)) (now (events .entry)) ⌝ }
 {
     let receiver = Receiver {
         band: *band,
@@ -64,7 +64,7 @@ fn store_state(
     run: &mut u8,
     stage: &mut [u8; 4],
 )
-    ensures { λ r. ⌜ numbers (now (band .exit)) (now (window .exit)) (now (run .exit)) (now (stage .exit)) ≡ numbersOf receiver ⌝ }
+    ensures { λ r. ⌜ stateNumbers (now (band .exit)) (now (window .exit)) (now (run .exit)) (now (stage .exit)) ≡ numbersOf receiver ⌝ }
 {
     let samples = receiver.window;
     let at = receiver.stage;

@@ -4,7 +4,7 @@ use mathlib.Core.Path.{_≡_, refl, sym, ap, ap₂, _∙_}
 use mathlib.Core.Bool.{true, false≢true}
 use mathlib.Core.List.{List, [], _∷_, _++_}
 use mathlib.Mathlib.Data.Bool.Basic.{and-intro}
-use Prim.Native.Nat.{ℕ, suc, _≤_}
+use Prim.Native.Nat.{ℕ, suc}
 use lib.Dec.{eqb·suc-zero}
 use lib.IntN.{ℤ}
 use lib.ListN.{length, drop}
@@ -18,7 +18,7 @@ use Rattle.tones.specs.Samples.{areSamples}
 use Rattle.tones.proofs.Samples.{samples-append}
 use Rattle.receiver.specs.declared.Receiver.{Receiver}
 use Rattle.receiver.specs.Step.{stepOf, eventsAt, stateAfter, eventsAfter}
-use Rattle.receiver.specs.Calls.{inRange, placesFor, blockOf}
+use Rattle.receiver.specs.Calls.{inRange, blockOf}
 use Rattle.receiver.specs.Lists.{Call, callOf, samplesRead, eventsRead, OneReading, TwoBlocks}
 use Rattle.receiver.proofs.Ranges.{state-kept}
 use Rattle.receiver.proofs.Counting.{events-few}
@@ -83,33 +83,22 @@ told s c =
     no : (n : ℕ) → isAccepted (refused (suc n) s (c .lent)) ≡ true → Told s (c .samples) (refused (suc n) s (c .lent))
     no n e = absurd (false≢true (sym (eqb·suc-zero n) ∙ e))
 
-module _ (s : Receiver) (one two : Call) (lent : List ℕ) (a : isAccepted (callOf s one) ≡ true) (b : isAccepted (callOf (callOf s one .state) two) ≡ true)
-    (few : length (one .samples ++ two .samples) ≤ 16384) (room : placesFor (length (one .samples ++ two .samples)) ≤ length lent) where
-  abbrev xs : List ℤ
-  xs = one .samples
-
-  abbrev ys : List ℤ
-  ys = two .samples
-
-  first : Told s xs (callOf s one)
-  first = told s one a
-
-  second : Told (callOf s one .state) ys (callOf (callOf s one .state) two)
-  second = told (callOf s one .state) two b
-
-  both : blockOf s (xs ++ ys) lent ≡ accepted (stateAfter s (xs ++ ys)) (eventsAfter s (xs ++ ys)) lent
-  both = block-0 s (xs ++ ys) lent (first .range) few (samples-append xs ys ∙ and-intro (first .samples) (second .samples)) room
-
-  pub two-blocks : TwoBlocks s one two lent
-  two-blocks =
-      record {
-        accepted = ap isAccepted both;
-        state =
-            ap (λ (o : Outcome Receiver ℕ). o .state) both ∙ reading-laws .after-append s xs ys
-            ∙ sym (second .state ∙ ap (λ (t : Receiver). stateAfter t ys) (first .state));
-        events =
-            ap front both
-            ∙ take-append-seam (eventsAfter s (xs ++ ys)) (drop (length (eventsAfter s (xs ++ ys))) lent)
-            ∙ reading-laws .gives-append s xs ys
-            ∙ sym (ap₂ (λ (l m : List ℕ). l ++ m) (first .events) (second .events ∙ ap (λ (t : Receiver). eventsAfter t ys) (first .state)));
-      }
+pub two-blocks : (s : Receiver) (one two : Call) (lent : List ℕ) → TwoBlocks s one two lent
+two-blocks s one two lent a b few room =
+    let xs : List ℤ = one .samples in
+    let ys : List ℤ = two .samples in
+    let first : Told s xs (callOf s one) = told s one a in
+    let second : Told (callOf s one .state) ys (callOf (callOf s one .state) two) = told (callOf s one .state) two b in
+    let both : blockOf s (xs ++ ys) lent ≡ accepted (stateAfter s (xs ++ ys)) (eventsAfter s (xs ++ ys)) lent =
+    block-0 s (xs ++ ys) lent (first .range) few (samples-append xs ys ∙ and-intro (first .samples) (second .samples)) room in
+    record {
+      accepted = ap isAccepted both;
+      state =
+          ap (λ (o : Outcome Receiver ℕ). o .state) both ∙ reading-laws .after-append s xs ys
+          ∙ sym (second .state ∙ ap (λ (t : Receiver). stateAfter t ys) (first .state));
+      events =
+          ap front both
+          ∙ take-append-seam (eventsAfter s (xs ++ ys)) (drop (length (eventsAfter s (xs ++ ys))) lent)
+          ∙ reading-laws .gives-append s xs ys
+          ∙ sym (ap₂ (λ (l m : List ℕ). l ++ m) (first .events) (second .events ∙ ap (λ (t : Receiver). eventsAfter t ys) (first .state)));
+    }

@@ -3,6 +3,7 @@
 use mathlib.Core.Path.{_≡_, refl}
 use mathlib.Core.Bool.{true, false, false≢true}
 use Prim.Native.Nat.{ℕ, _+_, _-_, _<_, _≤_}
+use native.Mathlib.Omega.{arith}
 use borrow.Author.Tests.{le-leb, lt-leb, eq-eqb, ne-eqb}
 use lib.Dec.{leb}
 use Rattle.integers.proofs.Tests.{cond-case}
@@ -10,7 +11,18 @@ use Rattle.receiver.specs.declared.Decision.{Decision}
 use Rattle.receiver.specs.declared.Next.{Next}
 use Rattle.receiver.specs.declared.Stage.{Stage}
 use Rattle.receiver.specs.declared.Stage.the-variants.{Searching, Waiting}
-use Rattle.receiver.specs.Step.{carrierLost, noStop, quiet, report, gathered, taken, nextOf, isDue, waitOver}
+use Rattle.receiver.specs.Step.{carrierLost, noStop, numbers, quiet, report, runAfter, gathered, taken, nextOf, isDue, waitOver, Control, controlAfter, reported}
+
+-- ---- the run
+
+pub run-good : (run : ℕ) → run < 32 → runAfter run true ≡ run + 1
+run-good run h = omega arith
+
+pub run-full : (run : ℕ) → 32 ≤ run → runAfter run true ≡ 32
+run-full run h = omega arith
+
+pub run-lost : (run : ℕ) → runAfter run false ≡ 0
+run-lost run = refl
 
 -- ---- a slot is taken
 
@@ -60,11 +72,27 @@ module _ (run : ℕ) (d : Decision) where
   unfolding nextOf
   search-mark e s = simp (eq-eqb run 32 e, s)
 
-  pub wait-more : (wait slot byte : ℕ) → isDue (Waiting wait slot byte) ≡ false → nextOf (Waiting wait slot byte) run d ≡ quiet (Waiting (wait - 1) slot byte)
-  unfolding nextOf
-  wait-more wait slot byte e = rw e
+  module _ (wait slot byte : ℕ) where
+    pub wait-more : 1 < wait → nextOf (Waiting wait slot byte) run d ≡ quiet (Waiting (wait - 1) slot byte)
+    unfolding nextOf
+    wait-more h = simp (ne-eqb (wait - 1) 0 (λ e. omega arith))
+
+    pub wait-taken : wait ≡ 1 → nextOf (Waiting wait slot byte) run d ≡ taken slot byte d
+    unfolding nextOf
+    wait-taken e = rw e
 
   pub wait-over : (stage : Stage) → isDue stage ≡ true → nextOf stage run d ≡ waitOver stage d
   unfolding nextOf
   wait-over Searching e = absurd (false≢true e)
   wait-over (Waiting wait slot byte) e = rw e
+
+-- ---- run and stage after a decision, and its events
+
+module _ (c : Control) (d : Decision) (run : ℕ) (n : Next) (er : run ≡ runAfter (c .run) (d .good)) (en : n ≡ nextOf (c .stage) run d) where
+  pub control-after : controlAfter c d ≡ record { run = run; stage = n .stage }
+  unfolding controlAfter
+  control-after = rw (en, er)
+
+  pub events-reported : reported c d ≡ numbers (n .event)
+  unfolding reported
+  events-reported = rw (en, er)

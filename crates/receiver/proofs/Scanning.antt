@@ -19,6 +19,7 @@ use Rattle.receiver.specs.Energy.{IsWindow}
 use Rattle.receiver.specs.Step.{numbers, runAfter, nextOf, Control, controlAfter, reported}
 use Rattle.receiver.specs.Windows.{decisions, follow, reports, controlIn, progressed}
 use Rattle.receiver.specs.Calls.{isControl}
+use Rattle.receiver.proofs.Rules.{control-after, events-reported}
 use Rattle.receiver.proofs.Ranges.{control-kept}
 use Rattle.receiver.proofs.Windows.{decisions-none, decisions-more}
 
@@ -74,12 +75,7 @@ module _ (decide : List ℤ → Decision) (source : List ℤ) (lent : List ℕ) 
           ∙ ap (λ (l : List ℤ). d ∷ decisions decide l) (drop-drop 1 k source)
 
       moved : controlAfter (controlIn now) d ≡ onward
-      unfolding controlAfter
-      moved = rw (en, er)
-
-      told : reported (controlIn now) d ≡ numbers (n .event)
-      unfolding reported
-      told = rw (en, er)
+      moved = control-after (controlIn now) d run n er en
 
       reached-next : follow onward (decisions decide (drop (k + 1) source)) ≡ follow (controlIn now) (decisions decide (drop k source))
       unfolding after
@@ -91,7 +87,7 @@ module _ (decide : List ℤ → Decision) (source : List ℤ) (lent : List ℕ) 
       rest-next =
           ap (reports (controlIn now)) next
           ∙ ap (λ (c : Control). reported (controlIn now) d ++ rest c (k + 1)) moved
-          ∙ ap (λ (l : List ℕ). l ++ rest onward (k + 1)) told
+          ∙ ap (λ (l : List ℕ). l ++ rest onward (k + 1)) (events-reported (controlIn now) d run n er en)
 
       count-next : length (rest (controlIn now) k) ≡ length (numbers (n .event)) + length (rest onward (k + 1))
       count-next = ap length rest-next ∙ length-append (numbers (n .event)) (rest onward (k + 1))

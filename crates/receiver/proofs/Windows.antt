@@ -1,5 +1,5 @@
 -- The step rule by windows: reading samples is following the decisions at the windows that they complete. And how the windows of a
--- block fall into those that reach back behind it and its own.
+-- block fall into those that begin before it and its own.
 -- Assumes nothing.
 use mathlib.Core.Path.{_≡_, refl, sym, ap, _∙_}
 use mathlib.Core.List.{List, [], _∷_, _++_, append-assoc, append-nil}
@@ -41,7 +41,7 @@ module _ (decide : List ℤ → Decision) where
       ∙ ap (λ (ds : List Decision). decide (take 32 (x ∷ (xs ++ ys))) ∷ ds) (decisions-cut xs ys zs e)
       ∙ ap (λ (ds : List Decision). ds ++ decisions decide (ys ++ zs)) (sym (decisions-more (x ∷ (xs ++ ys)) (omega arith)))
 
-  -- the windows that reach back into `old`, and those of the block xs
+  -- the windows that begin in `old`, and those of the block xs
   pub decisions-seam : (old xs : List ℤ) (n : ℕ) → n ≡ min (length xs) 31
       → decisions decide (old ++ xs) ≡ decisions decide (old ++ take n xs) ++ decisions decide xs
   decisions-seam old xs n e = go (decLt (length xs) 31)

@@ -44,6 +44,7 @@ isStage (Waiting wait slot byte) = isWait wait slot && isSlot slot byte
 unfoldable pub isControl : Control → Bool
 isControl c = leb (c .run) 32 && isStage (c .stage)
 
+-- every field by itself is in its range, each of the 32 samples too (decision 18)
 unfoldable pub inRange : Receiver → Bool
 inRange s = isBand (s .band) && (areSamples (s .window) && isControl (controlOf s))
 

@@ -37,8 +37,15 @@ pub record OneReading (s : Receiver) (calls : List Call) : Type 0 where
   pub range : inRange s ≡ true → inRange (lists.stateAfter callOf s calls) ≡ true
   pub few : inRange s ≡ true → length (eventsRead s calls) ≤ placesFor (length (samplesRead s calls))
 
--- Two accepted blocks, one after the other, and the call that is handed both joined, which is accepted if it can be.
-pub record TwoBlocks (s : Receiver) (one two : Call) (lent : List ℕ) : Type 0 where
-  pub accepted : isAccepted (blockOf s (one .samples ++ two .samples) lent) ≡ true
-  pub state : blockOf s (one .samples ++ two .samples) lent .state ≡ callOf (callOf s one .state) two .state
-  pub events : front (blockOf s (one .samples ++ two .samples) lent) ≡ front (callOf s one) ++ front (callOf (callOf s one .state) two)
+-- What the outcome `both` tells is what the outcomes `first` and `second` tell, one after the other.
+pub record ReadAs (both first second : Outcome Receiver ℕ) : Type 0 where
+  pub accepted : isAccepted both ≡ true
+  pub state : both .state ≡ second .state
+  pub events : front both ≡ front first ++ front second
+
+-- Two accepted blocks are read as the block that joins them, if that has at most 16,384 samples and its places are lent.
+abbrev pub TwoBlocks : Receiver → Call → Call → List ℕ → Type 0
+TwoBlocks s one two lent =
+    isAccepted (callOf s one) ≡ true → isAccepted (callOf (callOf s one .state) two) ≡ true
+    → length (one .samples ++ two .samples) ≤ 16384 → placesFor (length (one .samples ++ two .samples)) ≤ length lent
+    → ReadAs (blockOf s (one .samples ++ two .samples) lent) (callOf s one) (callOf (callOf s one .state) two)

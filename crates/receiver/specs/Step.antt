@@ -1,5 +1,5 @@
--- The step rule: what one sample, and a list of samples, does to a receiver: document 01, "Reader, step by step". Its `moment` is
--- our slot: 0 the start bit, 1 to 8 the data bits, 9 the stop bit.
+-- The step rule: what one sample, and a list of samples, does to a receiver: document 01, "Reader, step by step", as decision 17
+-- reads it. Its `moment` is our slot: 0 the start bit, 1 to 8 the data bits, 9 the stop bit.
 -- Assumes nothing.
 use mathlib.Core.Bool.{Bool, false, cond, not, _&&_}
 use mathlib.Core.List.{List, [], _∷_, _++_}
@@ -39,7 +39,7 @@ quiet stage = record { stage = stage; event = Nothing }
 abbrev pub report : ℕ → Next
 report n = record { stage = Searching; event = Number n }
 
--- ---- rule 3: the run grows by 1, to 32 at most, while the level is good
+-- ---- rule 3: while the level is good the run grows by 1, to 32 at most; else it becomes 0
 
 abbrev pub runAfter : ℕ → Bool → ℕ
 runAfter run good = cond good (min (run + 1) 32) 0
@@ -73,7 +73,8 @@ unfoldable pub nextOf : Stage → ℕ → Decision → Next
 nextOf Searching run d = cond (eqb run 32 && d .space) (quiet (Waiting 16 0 0)) (quiet Searching)
 nextOf (Waiting wait slot byte) run d = cond (eqb (wait - 1) 0) (taken slot byte d) (quiet (Waiting (wait - 1) slot byte))
 
--- the same in two parts, as the code has it: whether a wait ends with the sample, and then what it ends in
+-- the same in two parts, as the code has it: whether a wait ends with the sample, and then what it ends in; a search waits for
+-- nothing
 abbrev pub isDue : Stage → Bool
 isDue Searching = false
 isDue (Waiting wait slot byte) = eqb (wait - 1) 0
@@ -82,7 +83,7 @@ abbrev pub waitOver : Stage → Decision → Next
 waitOver Searching d = quiet Searching
 waitOver (Waiting wait slot byte) d = taken slot byte d
 
--- ---- what a decision moves: the run and the stage
+-- ---- what a decision moves: the run and the stage. To hold them together is ours.
 
 pub record Control : Type 0 where
   pub run : ℕ

@@ -1,5 +1,5 @@
 -- A list of samples as its windows: the decision at each, and what the decisions do. The step rule is the same by windows
--- (proofs/Windows: `control-after`, `events-after`), which is how the code reads a block. The definitions are ours.
+-- (proofs/Windows: `by-windows`), which is how the code reads a block. The definitions are ours.
 -- Assumes nothing.
 use mathlib.Core.Bool.{cond}
 use mathlib.Core.List.{List, [], _∷_}
@@ -38,6 +38,6 @@ progressed p ds =
       count = p .count + length (reports (controlIn p) ds);
     }
 
--- the last 32 of a window and a block xs, where `head` is the window with the first 31 of the block behind it
+-- the last 32 of a window and a block xs, where `head` is the window with at most 31 samples of the block behind it
 abbrev pub lastWindow : List ℤ → List ℤ → List ℤ
 lastWindow head xs = cond (ltb (length xs) 32) (take 32 (drop (length xs) head)) (drop (length xs - 32) xs)

@@ -1,5 +1,5 @@
-// An accepted block: every 32 samples in a row are a window. The windows that reach back behind the block are parts of a short
-// list, the old window with the first samples behind it; all others are parts of the block itself.
+// An accepted block: every 32 samples in a row are a window. The windows that begin before the block are parts of a short list,
+// the head: the old window with the first samples behind it. All others are parts of the block itself.
 ghost use mathlib.Core.Path.{_≡_};
 ghost use mathlib.Core.Bool.{true};
 ghost use mathlib.Core.List.{_++_};
@@ -54,6 +54,7 @@ pub(crate) fn read(receiver: Receiver, samples: &[i16], events: &mut [u16]) -> R
     };
     let n = at_most_31(samples.len());
     let head = joined(&old, samples, n);
+    // The head's first window is the old one, which was judged with its last sample.
     let end = 32 + n;
     let p = scan(&head[1..end], &c0, &s0, &c1, &s1, events, first);
     let q = scan(samples, &c0, &s0, &c1, &s1, events, p);
@@ -73,7 +74,7 @@ pub(crate) fn read(receiver: Receiver, samples: &[i16], events: &mut [u16]) -> R
     }
 }
 
-// Reads every window of the source, which is a part of the block.
+// Judges every window of the source, the head or the block itself, and reads on from the progress so far.
 fn scan(
     source: &[i16],
     c0: &[i16; 32],
@@ -129,7 +130,7 @@ fn put(events: &mut [u16], at: usize, event: Event) -> usize
     }
 }
 
-// So many samples of a block stand in windows that reach back behind it.
+// So many samples of a block stand in windows that begin before it.
 fn at_most_31(len: usize) -> usize
     ensures { λ r. ⌜ r ≡ min len 31 ⌝ }
 {

@@ -85,15 +85,14 @@ impl Receiver {
         ensures { λ r. ⌜ outcome (r .answer) (r .receiver) (now (events .exit))
             ≡ blockOf self (now (samples .entry)) (now (events .entry)) ⌝ }
     {
-        let ranged = self.in_range();
-        let sound = tones::are_samples(samples);
-        let fits = samples.len() / 48 + 1 <= events.len();
-        if !ranged {
+        if !self.in_range() {
             return self.refused(2);
         }
         if 16384 < samples.len() {
             return self.refused(3);
         }
+        let sound = tones::are_samples(samples);
+        let fits = samples.len() / 48 + 1 <= events.len();
         if !sound {
             return self.refused(5);
         }

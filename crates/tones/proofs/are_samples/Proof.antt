@@ -1,3 +1,5 @@
+-- `tones::are_samples` meets its contract: each turn tests one sample.
+-- Assumes nothing.
 use mathlib.Core.Path.{_≡_, refl, sym}
 use mathlib.Core.Bool.{_&&_}
 use Prim.Native.Nat.{_-_, _≤_, zero-le}
@@ -11,9 +13,6 @@ use Rattle.tones.specs.Samples.{areSamples}
 use Rattle.tones.proofs.Samples.{tested-more, tested-all}
 use Rattle.tones.proofs.are_samples.Statement.{statement}
 use Rattle.tones.proofs.are_samples.Tie as tie
-use Rattle.tones.proofs.are_samples.Reads as reads
-use Rattle.tones.proofs.are_samples.Lts as lts
-use Rattle.tones.proofs.is_sample.Reads as is-sample-reads
 
 abbrev Inv-loop : tie.InvT-loop
 Inv-loop xs good₀ k₀ good k = (k ≤ length xs) × (areSamples xs ≡ (good && areSamples (drop k xs)))
@@ -21,31 +20,24 @@ Inv-loop xs good₀ k₀ good k = (k ≤ length xs) × (areSamples xs ≡ (good 
 abbrev μ-loop : tie.MeasureT-loop
 μ-loop xs good₀ k₀ good k = length xs - k
 
--- src/lib.rt:47:5
 loop-holds : tie.Need-loop-holds Inv-loop μ-loop
 loop-holds c = (zero-le, refl)
 
--- src/lib.rt:48:33
 mul-is-sample : tie.Need-mul-is-sample Inv-loop μ-loop
 mul-is-sample c = search needs
 
--- src/lib.rt:48:33
 shared-slice-copy-out-is-sample : tie.Need-shared-slice-copy-out-is-sample Inv-loop μ-loop
 shared-slice-copy-out-is-sample c = search needs
 
--- src/lib.rt:48:23
 is-sample-requires : tie.Need-is-sample-requires Inv-loop μ-loop
 is-sample-requires c κs = tt
 
--- src/lib.rt:49:9
 add-k : tie.Need-add-k Inv-loop μ-loop
 add-k c = search needs
 
--- src/lib.rt:47:5
 loop-less : tie.Need-loop-less Inv-loop μ-loop
 loop-less c = omega arith
 
--- src/lib.rt:47:5
 loop-again : tie.Need-loop-again Inv-loop μ-loop
 loop-again c =
     let l = c .before .before .before .loop in
@@ -55,7 +47,6 @@ loop-again c =
       rw (c .is-sample .ensures, toZ-ofZ {w = w16} {z = x} (sfits-of (c .before .is-sample-arg .given))) (tested-more xs (l .k) (l .good) (l .inv .1) (omega arith)),
     )
 
--- src/lib.rt:42:1
 returns : tie.Need-returns Inv-loop μ-loop
 returns c = sym (tested-all _ (c .before .loop .k) (c .before .loop .good) (c .before .loop .inv .1) (omega arith))
 

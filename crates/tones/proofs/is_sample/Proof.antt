@@ -1,3 +1,5 @@
+-- `tones::is_sample` meets its contract.
+-- Assumes nothing.
 use mir.Syntax.{w16}
 use mir.Facts.{toZ-ofZ}
 use Rattle.tones.proofs.is_sample.Statement.{statement}

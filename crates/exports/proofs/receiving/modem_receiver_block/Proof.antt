@@ -3,7 +3,7 @@
 use mathlib.Core.Path.{ap}
 use borrow.Author.Needs.{needs}
 use Rattle.receiver.specs.declared.Stage.{Stage}
-use Rattle.exports.specs.Receiving.{numbers}
+use Rattle.exports.specs.Receiving.{stateNumbers}
 use Rattle.exports.proofs.Stored.{stored-next, stored-none}
 use Rattle.exports.proofs.receiving.modem_receiver_block.Statement.{statement}
 use Rattle.exports.proofs.receiving.modem_receiver_block.Tie as tie
@@ -24,7 +24,7 @@ returns : tie.Need-returns
 returns c =
     let a = c .before .before .before .before .before .before .before .before .before .before .before .before .before .before .before .before .before .before .before .args in
     let read = c .before .before .before .before .before .before .before .before .before .before .before .block in
-    stored-next (numbers (a .band .now) (a .window .now) (a .run .now) (a .stage .now)) (a .samples .now) (a .events .now)
+    stored-next (stateNumbers (a .band .now) (a .window .now) (a .run .now) (a .stage .now)) (a .samples .now) (a .events .now)
     _
     (ap (λ (s : Stage). record { band = a .band .now; window = a .window .now; run = a .run .now; stage = s }) (c .before .before .before .before .before .before .before .before .before .before .before .before .before .stage-of .ensures))
     (read .result) (read .last .1 .1 .0) (read .ensures) (c .before .before .before .before .before .if1 .taken) _ (c .store-state .ensures)
@@ -36,7 +36,7 @@ returns-2 : tie.Need-returns-2
 returns-2 c =
     let a = c .before .before .before .before .before .before .before .before .before .before .before .before .before .before .args in
     let read = c .before .before .before .before .before .before .block in
-    stored-none (numbers (a .band .now) (a .window .now) (a .run .now) (a .stage .now)) (a .samples .now) (a .events .now)
+    stored-none (stateNumbers (a .band .now) (a .window .now) (a .run .now) (a .stage .now)) (a .samples .now) (a .events .now)
     _
     (ap (λ (s : Stage). record { band = a .band .now; window = a .window .now; run = a .run .now; stage = s }) (c .before .before .before .before .before .before .before .before .stage-of .ensures))
     (read .result) (read .last .1 .1 .0) (read .ensures) (c .if1 .left)

@@ -1,7 +1,7 @@
 -- `exports::receiving::store_state` meets its contract.
 -- Assumes nothing.
 use mathlib.Core.Path.{ap}
-use Rattle.exports.specs.Receiving.{numbers}
+use Rattle.exports.specs.Receiving.{stateNumbers}
 use Rattle.exports.proofs.receiving.store_state.Statement.{statement}
 use Rattle.exports.proofs.receiving.store_state.Tie as tie
 
@@ -11,7 +11,7 @@ stage-numbers-requires c κs = tt
 returns : tie.Need-returns
 returns c =
     let r = c .before .before .args .receiver in
-    ap (numbers (r .band) (r .window) (r .run)) (c .stage-numbers .ensures)
+    ap (stateNumbers (r .band) (r .window) (r .run)) (c .stage-numbers .ensures)
 
 pub store-state-spec : {M : Type 1} → statement M
 store-state-spec = tie.close (tie.spec stage-numbers-requires returns)

@@ -1,12 +1,10 @@
 -- `receiver::control::go_on` meets its contract.
 -- Assumes nothing.
-use mathlib.Core.Path.{_≡_, sym, ap, _∙_}
-use mathlib.Core.Bool.{false}
-use Prim.Native.Nat.{_-_}
+use mathlib.Core.Path.{sym, ap, _∙_}
+use Prim.Native.Nat.{_-_, _<_}
 use native.Mathlib.Omega.{arith}
 use borrow.Author.Needs.{needs}
 use borrow.Author.Tests.{eqb-false}
-use lib.Dec.{eqb}
 use Rattle.receiver.specs.declared.Stage.{Stage}
 use Rattle.receiver.specs.Step.{isDue, nextOf}
 use Rattle.receiver.proofs.Rules.{wait-more}
@@ -23,11 +21,14 @@ enum-known-stage : tie.Need-enum-known-stage
 enum-known-stage c = search needs
 
 -- the wait does not end with the sample
-goes : (c : tie.After-known-told) → eqb (c .before .stage .given .0 .0 - 1) 0 ≡ false
-goes c = sym (ap isDue (c .before .stage .given .1)) ∙ c .before .before .before .pre
+goes : (c : tie.After-known-told) → 1 < c .before .stage .given .0 .0
+goes c =
+    let wait = c .before .stage .given .0 .0 in
+    let nz = eqb-false (wait - 1) 0 (sym (ap isDue (c .before .stage .given .1)) ∙ c .before .before .before .pre) in
+    omega (arith, nz)
 
 sub-t8 : tie.Need-sub-t8
-sub-t8 c = omega (arith, eqb-false (c .before .stage .given .0 .0 - 1) 0 (goes c))
+sub-t8 c = omega (arith, goes c)
 
 returns : tie.Need-returns
 returns c =

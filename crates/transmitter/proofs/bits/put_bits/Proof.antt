@@ -30,10 +30,6 @@ step-of-requires c κs = tt
 tone-requires : tie.Need-tone-requires Inv-loop μ-loop
 tone-requires c κs = tt
 
--- the 32 places of the present bit
-room : (c : tie.In-loop Inv-loop μ-loop) → c .before .before .before .args .at + 32 * c .before .loop .i + 32 ≤ length (c .before .loop .out)
-room c = let l = c .before .loop in omega (arith, l .inv .1 .filling .long)
-
 mul-put : tie.Need-mul-put Inv-loop μ-loop
 mul-put c = omega arith
 

@@ -1,0 +1,11 @@
+-- `receiver::Receiver::refused` meets its contract.
+-- Assumes nothing.
+use mathlib.Core.Path.{refl}
+use Rattle.receiver.proofs.Receiver.refused.Statement.{statement}
+use Rattle.receiver.proofs.Receiver.refused.Tie as tie
+
+returns : tie.Need-returns
+returns c = refl
+
+pub refused-spec : {M : Type 1} → statement M
+refused-spec = tie.close (tie.spec returns)
