@@ -40,7 +40,7 @@ struct Recording {
 fn recording(sines: &Sines, characters: usize, blocks: usize) -> Recording {
     let mut random = Random::new(SEED);
     let message = random.bytes(characters);
-    let sending = sending(sines, &message);
+    let sending = transmitter::sending(sines, BAND, &message);
     let mut samples = vec![0; blocks * BLOCK];
     let before = (samples.len() - sending.len()) / 2;
     samples[before..before + sending.len()].copy_from_slice(&sending);
@@ -50,44 +50,39 @@ fn recording(sines: &Sines, characters: usize, blocks: usize) -> Recording {
     Recording { message, samples }
 }
 
-/// Leader, characters and trailer.
-fn sending(sines: &Sines, message: &[u8]) -> Vec<i16> {
-    let mut samples = Vec::new();
-    let mut buffer = [0; 32_000];
-    let mut append = |answer: transmitter::Answer, buffer: &[i16]| {
-        assert_eq!(answer.number, 0);
-        samples.extend_from_slice(&buffer[..answer.count]);
-        answer.state
-    };
-    let (_, mut state) = transmitter::open(BAND);
-    state = append(transmitter::idle(sines, state, &mut buffer), &buffer);
-    for bytes in message.chunks(100) {
-        let answer = transmitter::characters(sines, state, bytes, &mut buffer);
-        state = append(answer, &buffer);
-    }
-    append(transmitter::idle(sines, state, &mut buffer), &buffer);
-    samples
-}
-
 /// One way to read a whole recording in blocks: it leaves the events in the
 /// list, one call's behind the other's, and returns how many there are.
 trait Receiver {
     fn read(&self, samples: &[i16], events: &mut [u16]) -> usize;
 }
 
+/// Reads all blocks, each from the state that the one before it gave. `block`
+/// answers with the number, the count and the state.
+fn read_all<S>(
+    mut state: S,
+    samples: &[i16],
+    events: &mut [u16],
+    block: impl Fn(S, &[i16], &mut [u16]) -> (u8, usize, S),
+) -> usize {
+    let mut count = 0;
+    for samples in samples.chunks(BLOCK) {
+        let (number, more, next) = block(state, samples, &mut events[count..]);
+        assert_eq!(number, 0);
+        count += more;
+        state = next;
+    }
+    count
+}
+
 struct Library;
 
 impl Receiver for Library {
     fn read(&self, samples: &[i16], events: &mut [u16]) -> usize {
-        let (_, mut state) = library::receiver_open(BAND);
-        let mut count = 0;
-        for block in samples.chunks(BLOCK) {
-            let answer = library::receiver_block(state, block, &mut events[count..]);
-            assert_eq!(answer.number, 0);
-            count += answer.count;
-            state = answer.state;
-        }
-        count
+        let (_, state) = library::receiver_open(BAND);
+        read_all(state, samples, events, |state, samples, events| {
+            let answer = library::receiver_block(state, samples, events);
+            (answer.number, answer.count, answer.state)
+        })
     }
 }
 
@@ -98,15 +93,11 @@ struct Peer<'a> {
 
 impl Receiver for Peer<'_> {
     fn read(&self, samples: &[i16], events: &mut [u16]) -> usize {
-        let (_, mut state) = receiver::open(BAND);
-        let mut count = 0;
-        for block in samples.chunks(BLOCK) {
-            let answer = (self.block)(self.sines, state, block, &mut events[count..]);
-            assert_eq!(answer.number, 0);
-            count += answer.count;
-            state = answer.state;
-        }
-        count
+        let (_, state) = receiver::open(BAND);
+        read_all(state, samples, events, |state, samples, events| {
+            let answer = (self.block)(self.sines, state, samples, events);
+            (answer.number, answer.count, answer.state)
+        })
     }
 }
 
@@ -176,7 +167,9 @@ fn main() -> ExitCode {
 
     println!("band {BAND}, seed {SEED}, disturbance -{DISTURBANCE} to {DISTURBANCE}");
     println!("{CHARACTERS} characters and silence in {BLOCKS} blocks of {BLOCK} samples");
-    println!("one buffer of samples and one of events, filled before the clock starts");
+    println!(
+        "one buffer of samples, and one of events for each reading, made before its clock starts"
+    );
     println!("best of {ROUNDS} rounds, of {GROWTH_ROUNDS} for the growth");
     println!();
 

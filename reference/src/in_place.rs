@@ -1,8 +1,9 @@
 //! The receiver's block call written for speed: each window is looked at where
-//! it lies in the block. A named peer of the benchmark.
+//! it lies in the block. One of the two loops that `bench/` measures beside the
+//! library.
 
 use crate::receiver::{
-    decided, places_needed, refused, Answer, Stage, State, LARGEST_SAMPLE, MOST_SAMPLES, WINDOW,
+    decided, is_sample, places_needed, refused, Answer, Stage, State, MOST_SAMPLES, WINDOW,
 };
 use crate::sine::Sines;
 use crate::transmitter::STEPS;
@@ -39,7 +40,6 @@ impl Weights {
 /// The first refusal whose condition holds. The samples are tested without a
 /// way out in between, which lets the compiler test several at once.
 pub(crate) fn refusal(state: &State, samples: &[i16], places: usize) -> Option<u8> {
-    let is_sample = |sample: i16| (-LARGEST_SAMPLE..=LARGEST_SAMPLE).contains(&sample);
     if !state.is_in_range() {
         Some(2)
     } else if samples.len() > MOST_SAMPLES {

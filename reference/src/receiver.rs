@@ -62,7 +62,7 @@ pub fn places_needed(samples: usize) -> usize {
     samples / 48 + 1
 }
 
-fn is_sample(sample: i16) -> bool {
+pub(crate) fn is_sample(sample: i16) -> bool {
     (-LARGEST_SAMPLE..=LARGEST_SAMPLE).contains(&sample)
 }
 

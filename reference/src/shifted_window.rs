@@ -1,5 +1,6 @@
-//! The receiver's block call with narrow numbers and a window that is shifted
-//! at each sample. A named peer of the benchmark.
+//! The receiver's block call with i16 weights, i32 sums and a window that is
+//! shifted at each sample. One of the two loops that `bench/` measures beside
+//! the library.
 
 use crate::in_place::{refusal, Progress, Weights};
 use crate::receiver::{refused, Answer, State, WINDOW};

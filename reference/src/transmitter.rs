@@ -110,3 +110,24 @@ fn send(sines: &Sines, mut state: State, bits: &[u8], out: &mut [i16]) -> Answer
         state,
     }
 }
+
+/// A whole sending from the fresh state of a band that is 1 or 2: leader,
+/// characters and trailer.
+pub fn sending(sines: &Sines, band: u8, message: &[u8]) -> Vec<i16> {
+    let mut samples = Vec::new();
+    let mut buffer = [0; CHARACTER_SAMPLES * MOST_CHARACTERS];
+    let mut append = |answer: Answer, buffer: &[i16]| {
+        assert_eq!(answer.number, 0);
+        samples.extend_from_slice(&buffer[..answer.count]);
+        answer.state
+    };
+    let (number, mut state) = open(band);
+    assert_eq!(number, 0);
+    state = append(idle(sines, state, &mut buffer), &buffer);
+    for bytes in message.chunks(MOST_CHARACTERS) {
+        let answer = characters(sines, state, bytes, &mut buffer);
+        state = append(answer, &buffer);
+    }
+    append(idle(sines, state, &mut buffer), &buffer);
+    samples
+}

@@ -3,7 +3,7 @@
 mod common;
 
 use common::receiver::{fresh, read_on, CARRIER_LOST, NO_STOP_BIT};
-use common::recording::{around_0, sending};
+use common::recording::{around_0, random_blocks, sending};
 use common::states::{any_samples, steps};
 use common::{sines, BANDS};
 use reference::random::Random;
@@ -25,14 +25,7 @@ fn kinds(events: &[u16]) -> [usize; 3] {
 /// The kinds of the events that either side tells of the samples, in blocks of
 /// random sizes up to `longest`.
 fn read(random: &mut Random, band: u8, samples: &[i16], longest: usize) -> [usize; 3] {
-    let mut blocks = Vec::new();
-    let mut rest = samples;
-    while !rest.is_empty() {
-        let size = random.below(longest + 1).min(rest.len());
-        let (block, behind) = rest.split_at(size);
-        blocks.push(block);
-        rest = behind;
-    }
+    let blocks = random_blocks(random, samples, longest);
     kinds(&read_on(fresh(band), blocks).0)
 }
 

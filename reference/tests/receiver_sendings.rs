@@ -3,7 +3,7 @@
 mod common;
 
 use common::receiver::{assert_events, fresh, read, read_on};
-use common::recording::{as_events, every_character, sending, surrounded};
+use common::recording::{as_events, every_character, random_blocks, sending, surrounded};
 use common::BANDS;
 use reference::random::Random;
 
@@ -45,14 +45,7 @@ fn blocks_of_random_sizes() {
         for longest in [3, 40, 400, 16_384] {
             let message = every_character(&mut random);
             let recording = surrounded(&sending(band, &message), 50, 50);
-            let mut blocks = Vec::new();
-            let mut rest = &recording[..];
-            while !rest.is_empty() {
-                let size = random.below(longest + 1).min(rest.len());
-                let (block, behind) = rest.split_at(size);
-                blocks.push(block);
-                rest = behind;
-            }
+            let blocks = random_blocks(&mut random, &recording, longest);
             let (events, _) = read_on(fresh(band), blocks);
             let what = || format!("band {band}, blocks of up to {longest}");
             assert_events(&events, &as_events(&message), what);

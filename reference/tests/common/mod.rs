@@ -19,7 +19,7 @@ pub const IDLE_SAMPLES: usize = 96;
 pub const CHARACTER_SAMPLES: usize = 320;
 
 /// Places before and behind the lent ones, to find a write outside them.
-const GUARD: usize = 8;
+pub const GUARD: usize = 8;
 
 pub fn sines() -> &'static Sines {
     static SINES: OnceLock<Sines> = OnceLock::new();

@@ -1,17 +1,15 @@
 //! A receiver call made on either side, and compared.
 
-use super::{sines, Side, SIDES};
+use super::{sines, Side, GUARD, SIDES};
 use reference::library::{self, BlockAnswer, Numbers};
 use reference::receiver::{self, places_needed, Answer, State};
 use reference::sine::Sines;
 
+// Document 01's numbers once more, so that a slip in the reference's own shows.
 pub const WINDOW: usize = 32;
 pub const MOST_SAMPLES: usize = 16_384;
 pub const NO_STOP_BIT: u16 = 256;
 pub const CARRIER_LOST: u16 = 257;
-
-/// Places before and behind the lent ones, to find a write outside them.
-const GUARD: usize = 8;
 
 pub const FRESH: Numbers = Numbers {
     band: 1,

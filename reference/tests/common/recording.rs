@@ -2,29 +2,14 @@
 
 use super::sines;
 use reference::random::Random;
-use reference::transmitter::{characters, idle, open, Answer};
+use reference::transmitter;
 
 /// The most that a disturbance adds or takes.
 pub const DISTURBANCE: i16 = 100;
 
 /// Leader, characters and trailer.
 pub fn sending(band: u8, message: &[u8]) -> Vec<i16> {
-    let mut samples = Vec::new();
-    let mut buffer = [0; 32_000];
-    let mut append = |answer: Answer, buffer: &[i16]| {
-        assert_eq!(answer.number, 0);
-        samples.extend_from_slice(&buffer[..answer.count]);
-        answer.state
-    };
-    let (number, mut state) = open(band);
-    assert_eq!(number, 0);
-    state = append(idle(sines(), state, &mut buffer), &buffer);
-    for bytes in message.chunks(100) {
-        let answer = characters(sines(), state, bytes, &mut buffer);
-        state = append(answer, &buffer);
-    }
-    append(idle(sines(), state, &mut buffer), &buffer);
-    samples
+    transmitter::sending(sines(), band, message)
 }
 
 /// The sending with silence before and behind it.
@@ -60,4 +45,21 @@ pub fn every_character(random: &mut Random) -> Vec<u8> {
 /// What the receiver is to tell of a message.
 pub fn as_events(message: &[u8]) -> Vec<u16> {
     message.iter().map(|&byte| u16::from(byte)).collect()
+}
+
+/// The samples in blocks of random sizes up to `longest`, empty ones among them.
+pub fn random_blocks<'a>(
+    random: &mut Random,
+    samples: &'a [i16],
+    longest: usize,
+) -> Vec<&'a [i16]> {
+    let mut blocks = Vec::new();
+    let mut rest = samples;
+    while !rest.is_empty() {
+        let size = random.below(longest + 1).min(rest.len());
+        let (block, behind) = rest.split_at(size);
+        blocks.push(block);
+        rest = behind;
+    }
+    blocks
 }
