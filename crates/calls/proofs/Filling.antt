@@ -32,7 +32,7 @@ module _ {A : Type 0} where
         → Filling lent from all (set now at x) (at + 1) (drop (i + 1) xs)
     filling-next xs i d x h e f = rw (e, add-one i) (filling-one (getD xs i d) (drop (suc i) xs) (rw (drop-cons xs i d) at f))
 
-    -- there is no place any more, and what is still to come goes nowhere
+    -- there is no place any more, and what is still to come is not stored
     pub filling-skip : (rest less : List A) → length now ≤ at → Filling lent from all now at rest → Filling lent from all now at less
     filling-skip rest less h f = record { long = f .long; whole = sets-out now at less h ∙ sym (sets-out now at rest h) ∙ f .whole }
 

@@ -32,12 +32,12 @@ fn main() {
         STDOUT_FILENO,
         b" samples of characters and a trailer\nread ",
     );
-    hear(&leader, &text, answer.count, &trailer);
+    read_back(&leader, &text, answer.count, &trailer);
     io::write_all(STDOUT_FILENO, b"\n");
 }
 
 // Reads the three parts from a fresh receiver.
-fn hear(leader: &[i16], text: &[i16], count: usize, trailer: &[i16]) {
+fn read_back(leader: &[i16], text: &[i16], count: usize, trailer: &[i16]) {
     let opened = Receiver::open(1);
     let r = read(opened.receiver, leader);
     let s = read_characters(r, text, count);

@@ -61,16 +61,16 @@ one-reading s calls =
 
 -- ---- two blocks
 
--- what an accepted call tells
-record Told (s : Receiver) (xs : List ℤ) (o : Outcome Receiver ℕ) : Type 0 where
+-- what is known of an accepted call
+record AcceptedCall (s : Receiver) (xs : List ℤ) (o : Outcome Receiver ℕ) : Type 0 where
   range : inRange s ≡ true
   samples : areSamples xs ≡ true
   state : o .state ≡ stateAfter s xs
   events : front o ≡ eventsAfter s xs
 
-told : (s : Receiver) (c : Call) → isAccepted (callOf s c) ≡ true → Told s (c .samples) (callOf s c)
-told s c =
-    block-case s (c .samples) (c .lent) (λ (o : Outcome Receiver ℕ). isAccepted o ≡ true → Told s (c .samples) o)
+accepted-call : (s : Receiver) (c : Call) → isAccepted (callOf s c) ≡ true → AcceptedCall s (c .samples) (callOf s c)
+accepted-call s c =
+    block-case s (c .samples) (c .lent) (λ (o : Outcome Receiver ℕ). isAccepted o ≡ true → AcceptedCall s (c .samples) o)
     (no 1) (no 2) (no 4) (no 3)
     (λ r a e.
     record {
@@ -80,15 +80,15 @@ told s c =
       events = take-append-seam (eventsAfter s (c .samples)) (drop (length (eventsAfter s (c .samples))) (c .lent));
     })
   where
-    no : (n : ℕ) → isAccepted (refused (suc n) s (c .lent)) ≡ true → Told s (c .samples) (refused (suc n) s (c .lent))
+    no : (n : ℕ) → isAccepted (refused (suc n) s (c .lent)) ≡ true → AcceptedCall s (c .samples) (refused (suc n) s (c .lent))
     no n e = absurd (false≢true (sym (eqb·suc-zero n) ∙ e))
 
 pub two-blocks : (s : Receiver) (one two : Call) (lent : List ℕ) → TwoBlocks s one two lent
 two-blocks s one two lent a b few room =
     let xs : List ℤ = one .samples in
     let ys : List ℤ = two .samples in
-    let first : Told s xs (callOf s one) = told s one a in
-    let second : Told (callOf s one .state) ys (callOf (callOf s one .state) two) = told (callOf s one .state) two b in
+    let first : AcceptedCall s xs (callOf s one) = accepted-call s one a in
+    let second : AcceptedCall (callOf s one .state) ys (callOf (callOf s one .state) two) = accepted-call (callOf s one .state) two b in
     let both : blockOf s (xs ++ ys) lent ≡ accepted (stateAfter s (xs ++ ys)) (eventsAfter s (xs ++ ys)) lent =
     block-0 s (xs ++ ys) lent (first .range) few (samples-append xs ys ∙ and-intro (first .samples) (second .samples)) room in
     record {

@@ -9,6 +9,7 @@ use native.Mathlib.Omega.{arith}
 use borrow.Author.Tests.{lt-ltb, le-ltb, le-leb, ne-eqb, ltb-true, leb-true, eqb-true, eqb-false}
 use lib.Dec.{ltb, leb, eqb}
 use lib.IntN.{ℤ}
+use lib.Pow.{pow-mono}
 use lib.ListN.{drop}
 use Rattle.integers.proofs.Tests.{cond-case, cond-split}
 use Rattle.calls.specs.Runs.{after}
@@ -51,6 +52,10 @@ slot-below slot byte nz h =
     rw (one, eqb-true byte 0 e) (omega arith))
     (λ l e. ltb-true byte (2 ^ (slot - 1)) e)
     (and-elim-right (leb slot 9) (cond (ltb slot 2) (eqb byte 0) (ltb byte (2 ^ (slot - 1)))) h)
+
+-- the weight of a data bit fits a byte
+pub weight-most : (slot : ℕ) → slot ≤ 8 → 2 ^ (slot - 1) ≤ 128
+weight-most slot h = pow-mono {i = slot - 1} {j = 7} (omega arith)
 
 -- the next slot, with the bit gathered
 slot-next : (slot byte : ℕ) (space : Bool) → (slot ≡ 0 → ⊥) → slot ≤ 8 → byte < 2 ^ (slot - 1) → isSlot (slot + 1) (gathered slot byte space) ≡ true

@@ -18,6 +18,9 @@ use Rattle.receiver.specs.Energy.{decisionOf}
 use Rattle.receiver.specs.Step.{reported, controlOf, entered, decisionAt, stepOf, eventsAt, stateAfter, eventsAfter}
 use Rattle.receiver.specs.Windows.{decisions, follow, reports}
 
+length-entered : (window : List ℤ) (x : ℤ) → length window ≡ 32 → length (entered window x) ≡ 32
+length-entered window x e = omega (arith, length-append (drop 1 window) (x ∷ []), length-drop 1 window)
+
 -- ---- the decisions of a list
 
 module _ (decide : List ℤ → Decision) where
@@ -58,7 +61,7 @@ module _ (decide : List ℤ → Decision) where
   decisions-entered : (window : List ℤ) (x : ℤ) (xs : List ℤ) → length window ≡ 32
       → decisions decide (drop 1 window ++ x ∷ xs) ≡ decide (entered window x) ∷ decisions decide (drop 1 (entered window x) ++ xs)
   decisions-entered window x xs e =
-      let l : length (entered window x) ≡ 32 = omega (arith, length-append (drop 1 window) (x ∷ []), length-drop 1 window) in
+      let l : length (entered window x) ≡ 32 = length-entered window x e in
       ap (decisions decide) (sym (append-snoc (drop 1 window) x xs))
       ∙ decisions-more (entered window x ++ xs) (omega (arith, length-append (entered window x) xs))
       ∙ ap (λ (w : List ℤ). decide w ∷ decisions decide (drop 1 (entered window x ++ xs))) (take-at (entered window x) xs 32 l)
@@ -82,9 +85,8 @@ by-windows s [] e =
     ∙ decisions-none (decisionOf (tonesOf (s .band))) (drop 1 (s .window)) (omega (arith, length-drop 1 (s .window))) in
     record { control = ap (follow (controlOf s)) (sym none); events = ap (reports (controlOf s)) (sym none) }
 by-windows s (x ∷ xs) e =
-    let l : length (entered (s .window) x) ≡ 32 = omega (arith, length-append (drop 1 (s .window)) (x ∷ []), length-drop 1 (s .window)) in
     let more = decisions-entered (decisionOf (tonesOf (s .band))) (s .window) x xs e in
-    let rest = by-windows (stepOf s x) xs l in
+    let rest = by-windows (stepOf s x) xs (length-entered (s .window) x e) in
     record {
       control = rest .control ∙ ap (follow (controlOf s)) (sym more);
       events =
@@ -103,7 +105,7 @@ unfolding after stepOf
 window-after s [] e = sym (append-nil (s .window))
 window-after s (x ∷ xs) e =
     let one : 1 + length xs ≡ suc (length xs) = omega arith in
-    window-after (stepOf s x) xs (omega (arith, length-append (drop 1 (s .window)) (x ∷ []), length-drop 1 (s .window)))
+    window-after (stepOf s x) xs (length-entered (s .window) x e)
     ∙ ap (drop (length xs)) (append-snoc (drop 1 (s .window)) x xs ∙ sym (drop-append-le 1 (s .window) (x ∷ xs) (omega arith)))
     ∙ drop-drop (length xs) 1 (s .window ++ x ∷ xs)
     ∙ ap (λ (n : ℕ). drop n (s .window ++ x ∷ xs)) one

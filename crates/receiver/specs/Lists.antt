@@ -37,7 +37,7 @@ pub record OneReading (s : Receiver) (calls : List Call) : Type 0 where
   pub range : inRange s ≡ true → inRange (lists.stateAfter callOf s calls) ≡ true
   pub few : inRange s ≡ true → length (eventsRead s calls) ≤ placesFor (length (samplesRead s calls))
 
--- What the outcome `both` tells is what the outcomes `first` and `second` tell, one after the other.
+-- The outcome `both` has the state of `second`, and the events of `first` and then those of `second`.
 pub record ReadAs (both first second : Outcome Receiver ℕ) : Type 0 where
   pub accepted : isAccepted both ≡ true
   pub state : both .state ≡ second .state

@@ -1,8 +1,7 @@
 -- `receiver::control::gather` meets its contract.
 -- Assumes nothing.
-use Prim.Native.Nat.{_-_, _^_, _≤_}
 use native.Mathlib.Omega.{arith}
-use lib.Pow.{pow-mono}
+use Rattle.receiver.proofs.Ranges.{weight-most}
 use Rattle.receiver.proofs.control.gather.Statement.{statement}
 use Rattle.receiver.proofs.control.gather.Tie as tie
 
@@ -11,9 +10,8 @@ weight-requires c κs = (c .before .pre .0, c .before .pre .1)
 
 add-result : tie.Need-add-result
 add-result c =
-    let slot = c .before .before .args .slot in
-    let most : 2 ^ (slot - 1) ≤ 128 = pow-mono {i = slot - 1} {j = 7} (omega arith) in
-    omega (arith, c .weight .ensures)
+    let s = c .before .before in
+    omega (arith, c .weight .ensures, weight-most (s .args .slot) (s .pre .1), s .pre .2)
 
 returns : tie.Need-returns
 returns c = rw (c .if1 .taken)
