@@ -1,11 +1,11 @@
--- Laws of lists that the library lacks: a place inside a list, cuts, and stores one behind the other.
+-- Laws of lists that the library lacks: a place inside a list, cuts, maps of parts, and stores one behind the other.
 -- Assumes nothing.
 use mathlib.Core.Path.{_≡_, refl, sym, ap, _∙_}
-use mathlib.Core.List.{List, [], _∷_, _++_, append-nil}
+use mathlib.Core.List.{List, [], _∷_, _++_, map, append-nil}
 use Prim.Native.Nat.{ℕ, zero, suc, _+_, _<_, _≤_}
 use native.Mathlib.Nat.{add-zero, add-suc, suc-add, zero-add, not-suc-le-zero, le-of-suc-le-suc}
 use native.Mathlib.Omega.{arith}
-use lib.ListN.{length, getD, set, take, drop, drop-of-length-le}
+use lib.ListN.{length, getD, set, take, drop, replicate, drop-of-length-le}
 use lib.Seq.{sets, sets-eq, set-out, take-nil}
 
 module _ {A : Type 0} where
@@ -43,3 +43,18 @@ module _ {A : Type 0} where
       sets-front new old (omega arith)
       ∙ ap (λ (l : List A). new ++ l) (drop-of-length-le old {i = length new} (omega arith))
       ∙ append-nil new
+
+module _ {A B : Type 0} (f : A → B) where
+  pub map-take : (n : ℕ) (l : List A) → map f (take n l) ≡ take n (map f l)
+  map-take zero l = refl
+  map-take (suc n) [] = refl
+  map-take (suc n) (x ∷ l) = ap (λ (r : List B). f x ∷ r) (map-take n l)
+
+  pub map-drop : (n : ℕ) (l : List A) → map f (drop n l) ≡ drop n (map f l)
+  map-drop zero l = refl
+  map-drop (suc n) [] = refl
+  map-drop (suc n) (x ∷ l) = map-drop n l
+
+  pub map-replicate : (n : ℕ) (x : A) → map f (replicate n x) ≡ replicate n (f x)
+  map-replicate zero x = refl
+  map-replicate (suc n) x = ap (λ (r : List B). f x ∷ r) (map-replicate n x)

@@ -1,13 +1,14 @@
--- The size of a whole number, natAbs: of a negative, a sum and a product, and that a small number fits a signed width.
+-- The size of a whole number, natAbs: of a negative, a sum, a product and a number near another, and that a small number fits a
+-- signed width.
 -- Assumes nothing.
-use mathlib.Core.Path.{_≡_, refl}
+use mathlib.Core.Path.{_≡_, refl, ap, _∙_}
 use Prim.Native.Nat.{ℕ, zero, suc, _+_, _*_, _^_, _≤_, _<_}
 use native.Mathlib.Nat.{le-refl, le-suc, le-trans, lt-of-le-of-lt, mul-le-mul}
 use native.Mathlib.Decide.{decLt}
 use native.Mathlib.Omega.{arith}
 use borrow.Author.Tests.{lt-ltb, le-ltb}
 use lib.Dec.{T, ltb, ltb→lt}
-use lib.IntN.{ℤ, pos, negsuc, negℤ, natAbs, subℕ, _+ℤ_, _*ℤ_}
+use lib.IntN.{ℤ, pos, negsuc, negℤ, natAbs, subℕ, _+ℤ_, _-ℤ_, _*ℤ_, +ℤ-comm, +ℤ-negℤ-cancel, -ℤ-+ℤ-cancel}
 use lib.Signed.{mag}
 use mir.Syntax.{Width}
 use mir.Val.{SFits, hbits}
@@ -29,6 +30,16 @@ natAbs-+ℤ (pos a) (pos b) = le-refl (a + b)
 natAbs-+ℤ (pos a) (negsuc b) = natAbs-subℕ a (suc b)
 natAbs-+ℤ (negsuc a) (pos b) = omega (arith, natAbs-subℕ b (suc a))
 natAbs-+ℤ (negsuc a) (negsuc b) = omega arith
+
+-- the same from below
+pub natAbs-+ℤ-low : (a b : ℤ) → natAbs a ≤ natAbs (a +ℤ b) + natAbs b
+natAbs-+ℤ-low a b = omega (arith, natAbs-+ℤ (a +ℤ b) (negℤ b), ap natAbs (+ℤ-negℤ-cancel a b), natAbs-negℤ b)
+
+-- the sizes of two numbers differ by no more than the numbers
+pub natAbs-near : (a b : ℤ) {n : ℕ} → natAbs (b -ℤ a) ≤ n → (natAbs a ≤ natAbs b + n) × (natAbs b ≤ natAbs a + n)
+natAbs-near a b h =
+    let e : natAbs (a +ℤ (b -ℤ a)) ≡ natAbs b = ap natAbs (+ℤ-comm a (b -ℤ a) ∙ -ℤ-+ℤ-cancel b a) in
+    (omega (arith, natAbs-+ℤ-low a (b -ℤ a)), omega (arith, natAbs-+ℤ a (b -ℤ a)))
 
 pub natAbs-*ℤ : (a b : ℤ) → natAbs (a *ℤ b) ≡ natAbs a * natAbs b
 natAbs-*ℤ (pos a) (pos b) = refl

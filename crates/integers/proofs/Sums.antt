@@ -1,14 +1,16 @@
--- Laws of sums: a sum of products as a dot product, and a dot product computed place by place.
+-- Laws of sums: a sum of products as a dot product, and a dot product computed place by place and of opposite numbers.
 -- Assumes nothing.
-use mathlib.Core.Path.{_≡_, refl, sym, ap, ap₂}
-use mathlib.Core.List.{List, [], _∷_}
+use mathlib.Core.Path.{_≡_, refl, sym, ap, ap₂, _∙_}
+use mathlib.Core.List.{List, [], _∷_, map}
 use Prim.Native.Nat.{ℕ, zero, suc, _+_, _<_}
 use native.Mathlib.Numerals.{add-one}
 use native.Mathlib.Omega.{arith}
-use lib.IntN.{ℤ, pos, _+ℤ_, _*ℤ_, +ℤ-assoc, zero-*ℤ}
+use lib.IntN.{ℤ, pos, negℤ, natAbs, _+ℤ_, _*ℤ_, +ℤ-assoc, zero-*ℤ, negℤ-+ℤ}
 use lib.ListN.{length, getD, drop}
 use lib.Seq.{drop-cons}
 use Rattle.integers.specs.Sums.{dot, sumTo}
+use Rattle.integers.proofs.Ring.{negℤ-*ℤ}
+use Rattle.integers.proofs.Size.{natAbs-negℤ}
 
 -- sums of equal terms
 pub sumTo-same : (n : ℕ) (f g : ℕ → ℤ) → ((k : ℕ) → k < n → f k ≡ g k) → sumTo n f ≡ sumTo n g
@@ -31,6 +33,17 @@ unfolding sumTo dot
 sumTo-dot [] ws = nothing ws
 sumTo-dot (x ∷ xs) [] = refl
 sumTo-dot (x ∷ xs) (w ∷ ws) = ap (λ (y : ℤ). x *ℤ w +ℤ y) (sumTo-dot xs ws)
+
+-- the opposite numbers have the opposite product, which is as large
+dot-opposite : (xs ws : List ℤ) → dot (map negℤ xs) ws ≡ negℤ (dot xs ws)
+unfolding dot
+dot-opposite [] ws = refl
+dot-opposite (x ∷ xs) [] = refl
+dot-opposite (x ∷ xs) (w ∷ ws) =
+    ap₂ (λ (y z : ℤ). y +ℤ z) (negℤ-*ℤ x w) (dot-opposite xs ws) ∙ sym (negℤ-+ℤ (x *ℤ w) (dot xs ws))
+
+pub size-opposite : (xs ws : List ℤ) → natAbs (dot (map negℤ xs) ws) ≡ natAbs (dot xs ws)
+size-opposite xs ws = ap natAbs (dot-opposite xs ws) ∙ natAbs-negℤ (dot xs ws)
 
 -- the dot product is the sum a of the first k products and the rest
 pub dot-next : (xs ws : List ℤ) (k : ℕ) (a : ℤ) → k < length xs → k < length ws

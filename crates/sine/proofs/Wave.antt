@@ -1,16 +1,17 @@
--- Laws of `wave`: its two cases, its length, its entries and their size, and that the phase counts modulo 1,920.
+-- Laws of `wave`: its two cases, its length, its entries and their size, that the phase counts modulo 1,920, and that half a
+-- cycle on the samples are the opposite ones.
 -- Assumes nothing.
 use mathlib.Core.Path.{_≡_, refl, _∙_, ap, ap₂}
-use mathlib.Core.List.{List, [], _∷_}
+use mathlib.Core.List.{List, [], _∷_, map}
 use Prim.Native.Nat.{ℕ, zero, suc, _+_, _*_, _%_, _<_, _≤_, zero-le}
 use native.Mathlib.Nat.{suc-mul, not-suc-le-zero, le-of-suc-le-suc}
 use native.Mathlib.Omega.{arith}
-use lib.IntN.{ℤ, pos, natAbs}
+use lib.IntN.{ℤ, pos, negℤ, natAbs}
 use lib.ListN.{length, getD}
 use Rattle.integers.specs.Sums.{Bounded}
 use Rattle.sine.specs.Sine.{S}
 use Rattle.sine.specs.Wave.{wave}
-use Rattle.sine.proofs.Laws.{S-same, S-bound}
+use Rattle.sine.proofs.Laws.{S-same, S-opposite, S-bound}
 
 pub wave-none : (s p : ℕ) → wave 0 s p ≡ []
 unfolding wave
@@ -38,6 +39,14 @@ pub wave-same : (n s p q : ℕ) → p % 1920 ≡ q % 1920 → wave n s p ≡ wav
 unfolding wave
 wave-same zero s p q e = refl
 wave-same (suc n) s p q e = ap₂ (λ (x : ℤ) (xs : List ℤ). x ∷ xs) (S-same p q e) (wave-same n s (p + s) (q + s) (omega arith))
+
+-- half a cycle on
+pub wave-opposite : (n s p : ℕ) → wave n s (p + 960) ≡ map negℤ (wave n s p)
+unfolding wave
+wave-opposite zero s p = refl
+wave-opposite (suc n) s p =
+    let e : p + 960 + s ≡ p + s + 960 = omega arith in
+    ap₂ (λ (x : ℤ) (xs : List ℤ). x ∷ xs) (S-opposite p) (ap (wave n s) e ∙ wave-opposite n s (p + s))
 
 entry-bound : (n s p k : ℕ) → natAbs (getD (wave n s p) k (pos 0)) ≤ 6000
 unfolding wave

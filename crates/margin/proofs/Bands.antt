@@ -1,0 +1,71 @@
+-- The numbers of the promise for every band, with each sample altered by at most 100: the test is computed for each pair of tones.
+-- The two pairs of V.21, which are no bands, pass it too.
+-- Assumes nothing.
+use mathlib.Core.Path.{_≡_, refl}
+use mathlib.Core.Bool.{Bool, true, false}
+use Prim.Native.Nat.{ℕ, zero, suc, _-_}
+use lib.ListN.{getD}
+use Rattle.sine.specs.Sine.{S, half, nearest}
+use Rattle.tones.specs.declared.Tones.{Tones}
+use Rattle.tones.specs.Bands.{originate, answer, bands, isBand, tonesOf}
+use Rattle.tones.proofs.Laws.{tones-band, tones-else}
+use Rattle.margin.specs.Windows.{Margins}
+use Rattle.margin.proofs.Test.{test}
+use Rattle.margin.proofs.Phases.{margins-of}
+
+abbrev pub disturbance : ℕ
+disturbance = 100
+
+-- ---- the bands
+
+originate-passes : test disturbance originate 64 15 ≡ true
+unfolding test S half nearest
+originate-passes = refl
+
+of-originate : Margins disturbance originate
+of-originate = margins-of disturbance originate 64 15 refl originate-passes refl refl
+
+answer-passes : test disturbance answer 160 6 ≡ true
+unfolding test S half nearest
+answer-passes = refl
+
+of-answer : Margins disturbance answer
+of-answer = margins-of disturbance answer 160 6 refl answer-passes refl refl
+
+-- the rows of the table; outside it originate stands
+row : (k : ℕ) → Margins disturbance (getD bands k originate)
+unfolding bands
+row zero = of-originate
+row (suc zero) = of-answer
+row (suc (suc k)) = of-originate
+
+pub margins : (band : ℕ) → Margins disturbance (tonesOf band)
+margins band = go (isBand band) refl
+  where
+    go : (b : Bool) → isBand band ≡ b → Margins disturbance (tonesOf band)
+    go true e = rw (tones-band band e) (row (band - 1))
+    go false e = rw (tones-else band e) of-originate
+
+-- ---- V.21
+
+-- 1,180 and 980 Hz
+abbrev low : Tones
+low = record { space = 236; mark = 196 }
+
+-- 1,850 and 1,650 Hz
+abbrev high : Tones
+high = record { space = 370; mark = 330 }
+
+low-passes : test disturbance low 64 15 ≡ true
+unfolding test S half nearest
+low-passes = refl
+
+high-passes : test disturbance high 320 3 ≡ true
+unfolding test S half nearest
+high-passes = refl
+
+pub v21-low : Margins disturbance (record { space = 236; mark = 196 })
+v21-low = margins-of disturbance low 64 15 refl low-passes refl refl
+
+pub v21-high : Margins disturbance (record { space = 370; mark = 330 })
+v21-high = margins-of disturbance high 320 3 refl high-passes refl refl

@@ -1,0 +1,45 @@
+-- The windows of a sending, and what a receiver decides in them under every disturbance: the numbers behind document 01's
+-- promise ("Whole recordings"). The definitions are ours.
+-- Assumes nothing.
+use mathlib.Core.Path.{_≡_}
+use mathlib.Core.Bool.{Bool, true, false}
+use mathlib.Core.List.{List, _++_}
+use Prim.Native.Nat.{ℕ, zero, suc, _+_, _*_, _%_, _<_, _≤_}
+use lib.IntN.{ℤ, pos}
+use lib.ListN.{take, drop, replicate}
+use Rattle.integers.specs.Near.{Near}
+use Rattle.sine.specs.Wave.{wave}
+use Rattle.tones.specs.declared.Tones.{Tones}
+use Rattle.tones.specs.Bands.{stepOf}
+use Rattle.receiver.specs.Energy.{decisionOf}
+
+-- the last 32 - k samples of the bit a, which begins at the phase p, and the first k of the bit b behind it
+unfoldable pub across : Tones → ℕ → ℕ → ℕ → ℕ → List ℤ
+across t p a b k = drop k (wave 32 (stepOf t a) p) ++ take k (wave 32 (stepOf t b) ((p + 32 * stepOf t a) % 1920))
+
+-- the last 32 - k samples of a mark bit that begins at the phase p, and k silent ones behind it
+unfoldable pub fading : Tones → ℕ → ℕ → List ℤ
+fading t p k = drop k (wave 32 (t .mark) p) ++ replicate k (pos 0)
+
+-- the bit 0 is space, and every other number mark, as `stepOf` has it
+abbrev pub isSpace : ℕ → Bool
+isSpace zero = true
+isSpace (suc bit) = false
+
+-- What is decided in every window of a sending by the tones t, each of whose samples is altered by at most `noise`. `Begins` holds
+-- of the phases at which a bit can begin.
+pub record Margins (noise : ℕ) (t : Tones) : Type 1 where
+  pub Begins : ℕ → Type 0
+  pub first-bit : Begins 0
+  pub next-bit : (p : ℕ) → Begins p → (bit : ℕ) → Begins ((p + 32 * stepOf t bit) % 1920)
+  -- the level is good in every window of two successive bits
+  pub carrier : (p : ℕ) → Begins p → (a b k : ℕ) → k < 32 → (w : List ℤ) → Near noise (across t p a b k) w → decisionOf t w .good ≡ true
+  -- the earlier bit is read up to 14 samples of the later one, the later from 19 on, and a bit that follows itself throughout
+  pub earlier : (p : ℕ) → Begins p → (a b k : ℕ) → k ≤ 14 → (w : List ℤ) → Near noise (across t p a b k) w → decisionOf t w .space ≡ isSpace a
+  pub later : (p : ℕ) → Begins p → (a b k : ℕ) → 19 ≤ k → k < 32 → (w : List ℤ) → Near noise (across t p a b k) w
+      → decisionOf t w .space ≡ isSpace b
+  pub steady : (p : ℕ) → Begins p → (a k : ℕ) → k < 32 → (w : List ℤ) → Near noise (across t p a a k) w → decisionOf t w .space ≡ isSpace a
+  -- space is not above mark while at most 15 silent samples have followed a mark bit
+  pub dying : (p : ℕ) → Begins p → (k : ℕ) → k ≤ 15 → (w : List ℤ) → Near noise (fading t p k) w → decisionOf t w .space ≡ false
+  -- silence has no good level
+  pub silent : (w : List ℤ) → Near noise (replicate 32 (pos 0)) w → decisionOf t w .good ≡ false
