@@ -2,7 +2,7 @@
 -- every kind of call, from how a run over a list of inputs falls into two parts.
 -- Assumes nothing.
 use mathlib.Core.Path.{_≡_, refl, sym, ap, ap₂, _∙_}
-use mathlib.Core.Bool.{cond}
+use mathlib.Core.Bool.{Bool, true, false, cond}
 use mathlib.Core.List.{List, [], _∷_, _++_}
 use Prim.Native.Nat.{ℕ, suc}
 use lib.Dec.{eqb·suc-zero}
@@ -10,7 +10,7 @@ use lib.ListN.{length, drop}
 use lib.Seq.{take-append-seam}
 use Rattle.calls.specs.Outcome.{Outcome, refused, accepted, isAccepted, front}
 use Rattle.calls.specs.Runs as runs
-use Rattle.calls.specs.Lists.{joined, stateAfter}
+use Rattle.calls.specs.Lists.{joined, acceptedCalls, stateAfter, each}
 use Rattle.calls.proofs.Runs.{RunLaws}
 
 module _ {S I A : Type 0} (after : S → List I → S) (gives : S → List I → List A) (run : RunLaws after gives) where
@@ -51,3 +51,14 @@ module _ {S I A : Type 0} (after : S → List I → S) (gives : S → List I →
         ap₂ (λ (l m : List A). l ++ m) (law s c .wrote)
         (joined-front cs (rule s c .state) ∙ ap (λ (t : S). gives t (inputsIn (rule s c .state) cs)) (law s c .state))
         ∙ sym (run .gives-append s (taken (rule s c) (inputs c)) (inputsIn (rule s c .state) cs))
+
+-- what is picked of the calls alone is picked of each accepted one
+module _ {S A C B : Type 0} (rule : S → C → Outcome S A) (f : C → List B) where
+  pub joined-each : (s : S) (cs : List C) → joined rule (λ o c. f c) s cs ≡ each f (acceptedCalls rule s cs)
+  unfolding runs.gives
+  joined-each s [] = refl
+  joined-each s (c ∷ cs) = one (isAccepted (rule s c)) (acceptedCalls rule (rule s c .state) cs) (joined-each (rule s c .state) cs)
+    where
+      one : (b : Bool) (m : List C) {l : List B} → l ≡ each f m → cond b (f c) [] ++ l ≡ each f (cond b (c ∷ []) [] ++ m)
+      one true m e = ap (λ (l : List B). f c ++ l) e
+      one false m e = e

@@ -1,15 +1,35 @@
--- A list that is altered by at most n at each place: its dot product with weights moves by at most n times their size.
--- This is how a disturbance of the samples reaches the sums that a receiver forms. From the ring laws and the sizes.
+-- A list that is altered by at most n at each place: parts of it are, and its dot product with weights moves by at most n times
+-- their size, which is how a disturbance of the samples reaches the sums that a receiver forms. From the ring laws and the sizes.
 -- Assumes nothing.
-use mathlib.Core.Path.{_≡_, sym, ap, _∙_}
-use mathlib.Core.List.{List, [], _∷_}
-use Prim.Native.Nat.{ℕ, _+_, _*_, _≤_, zero-le}
+use mathlib.Core.Path.{_≡_, refl, sym, ap, _∙_}
+use mathlib.Core.List.{List, [], _∷_, _++_}
+use Prim.Native.Nat.{ℕ, zero, suc, _+_, _*_, _≤_, zero-le}
 use native.Mathlib.Nat.{le-trans, add-le-add, mul-le-mul-right, mul-add}
 use lib.IntN.{ℤ, negℤ, natAbs, _+ℤ_, _-ℤ_, _*ℤ_, negℤ-+ℤ}
+use lib.ListN.{length, take, drop}
 use Rattle.integers.specs.Sums.{size, dot}
 use Rattle.integers.specs.Near.{Near, none, more}
 use Rattle.integers.proofs.Ring.{+ℤ-swap, +ℤ-*ℤ, negℤ-*ℤ}
 use Rattle.integers.proofs.Size.{natAbs-+ℤ, natAbs-*ℤ}
+
+module _ {n : ℕ} where
+  pub near-length : {xs ys : List ℤ} → Near n xs ys → length xs ≡ length ys
+  near-length none = refl
+  near-length (more h r) = ap suc (near-length r)
+
+  pub near-append : {xs ys us vs : List ℤ} → Near n xs ys → Near n us vs → Near n (xs ++ us) (ys ++ vs)
+  near-append none k = k
+  near-append (more h r) k = more h (near-append r k)
+
+  pub near-take : {xs ys : List ℤ} (k : ℕ) → Near n xs ys → Near n (take k xs) (take k ys)
+  near-take zero r = none
+  near-take (suc k) none = none
+  near-take (suc k) (more h r) = more h (near-take k r)
+
+  pub near-drop : {xs ys : List ℤ} (k : ℕ) → Near n xs ys → Near n (drop k xs) (drop k ys)
+  near-drop zero r = r
+  near-drop (suc k) none = none
+  near-drop (suc k) (more h r) = near-drop k r
 
 -- one place: d of at most n with the weight w, before a rest of at most n times m
 place : (n : ℕ) (d w r : ℤ) (m : ℕ) → natAbs d ≤ n → natAbs r ≤ n * m → natAbs (d *ℤ w +ℤ r) ≤ n * (natAbs w + m)

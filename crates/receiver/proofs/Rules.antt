@@ -1,11 +1,11 @@
 -- The cases of the step rule, each an equation under the tests that lead to it.
 -- Assumes nothing.
 use mathlib.Core.Path.{_≡_, refl}
-use mathlib.Core.Bool.{true, false, false≢true}
+use mathlib.Core.Bool.{true, false, and-false, false≢true}
 use Prim.Native.Nat.{ℕ, _+_, _-_, _<_, _≤_}
 use native.Mathlib.Omega.{arith}
 use borrow.Author.Tests.{le-leb, lt-leb, eq-eqb, ne-eqb}
-use lib.Dec.{leb}
+use lib.Dec.{leb, eqb}
 use Rattle.integers.proofs.Tests.{cond-case}
 use Rattle.receiver.specs.declared.Decision.{Decision}
 use Rattle.receiver.specs.declared.Next.{Next}
@@ -68,9 +68,9 @@ module _ (run : ℕ) (d : Decision) where
   unfolding nextOf
   search-short e = simp (ne-eqb run 32 e)
 
-  pub search-mark : run ≡ 32 → d .space ≡ false → nextOf Searching run d ≡ quiet Searching
+  pub search-mark : d .space ≡ false → nextOf Searching run d ≡ quiet Searching
   unfolding nextOf
-  search-mark e s = simp (eq-eqb run 32 e, s)
+  search-mark s = simp (s, and-false (eqb run 32))
 
   module _ (wait slot byte : ℕ) where
     pub wait-more : 1 < wait → nextOf (Waiting wait slot byte) run d ≡ quiet (Waiting (wait - 1) slot byte)

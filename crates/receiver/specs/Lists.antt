@@ -12,12 +12,18 @@ use Rattle.receiver.specs.declared.Receiver.{Receiver}
 use Rattle.receiver.specs.Step.{stateAfter, eventsAfter}
 use Rattle.receiver.specs.Calls.{inRange, placesFor, blockOf}
 
--- a call with what it is handed: the samples, and the lent list as it stands on entry
+-- the two entries: the state goes in and comes back by value, or it is lent and the next one is left in its place
+pub data Entry : Type 0 where
+  byValue : Entry
+  inPlace : Entry
+
+-- a call with what it is handed: through which entry, the samples, and the lent list as it stands on entry
 pub record Call : Type 0 where
+  pub entry : Entry
   pub samples : List ℤ
   pub lent : List ℕ
 
--- the outcome of a call, as its contract has it
+-- the outcome of a call, as the contract of either entry has it
 abbrev pub callOf : Receiver → Call → Outcome Receiver ℕ
 callOf s c = blockOf s (c .samples) (c .lent)
 

@@ -2,11 +2,13 @@
 -- Assumes nothing.
 use mathlib.Core.Path.{_≡_, refl, _∙_, sym, ap}
 use mathlib.Core.List.{List, [], _∷_, _++_, append-assoc, append-nil}
-use Prim.Native.Nat.{ℕ, zero, suc, _+_, _*_, _%_, _<_}
+use Prim.Native.Nat.{ℕ, zero, suc, _+_, _*_, _/_, _%_, _^_, _<_}
 use native.Mathlib.Nat.{suc-mul, not-suc-le-zero, le-of-suc-le-suc}
+use native.Mathlib.Numerals.{one-add}
 use native.Mathlib.Omega.{arith}
 use lib.IntN.{ℤ, pos}
-use lib.ListN.{length, getD, take, replicate, length-append, length-replicate}
+use lib.ListN.{length, getD, take, replicate, length-append, length-replicate, List·getD-append}
+use lib.Pow.{shr-shr}
 use Rattle.integers.specs.Sums.{total}
 use Rattle.sine.specs.Sine.{S}
 use Rattle.sine.specs.Wave.{wave}
@@ -112,3 +114,29 @@ pub length-characters : (bytes : List ℕ) → length (charactersBits bytes) ≡
 unfolding charactersBits
 length-characters [] = refl
 length-characters (x ∷ xs) = length-append (charBits x) (charactersBits xs) ∙ omega (arith, length-char x, length-characters xs)
+
+-- the bits of a character by number: 0 the start bit, 1 to 8 the data bits, and then the stop bit
+abbrev pub bitAt : ℕ → ℕ → ℕ
+bitAt byte m = getD (charBits byte) m 1
+
+data-at : (n x i : ℕ) → i < n → getD (dataBits n x) i 1 ≡ x / 2 ^ i % 2
+unfolding dataBits
+data-at zero x i h = absurd (not-suc-le-zero h)
+data-at (suc n) x zero h = omega arith
+data-at (suc n) x (suc i) h = data-at n (x / 2) i (le-of-suc-le-suc h) ∙ ap (λ (q : ℕ). q % 2) (shr-shr x 1 i ∙ ap (λ (e : ℕ). x / 2 ^ e) (one-add i))
+
+length-data : (byte : ℕ) → length (dataBits 8 byte) ≡ 8
+unfolding dataBits
+length-data byte = refl
+
+pub bit-start : (byte : ℕ) → bitAt byte 0 ≡ 0
+unfolding charBits
+bit-start byte = refl
+
+pub bit-data : (byte i : ℕ) → i < 8 → bitAt byte (suc i) ≡ byte / 2 ^ i % 2
+unfolding charBits
+bit-data byte i h = List·getD-append (dataBits 8 byte) (1 ∷ []) 1 i (omega (arith, length-data byte)) ∙ data-at 8 byte i h
+
+pub bit-stop : (byte : ℕ) → bitAt byte 9 ≡ 1
+unfolding charBits dataBits
+bit-stop byte = refl

@@ -60,18 +60,19 @@ stays s steps h =
     let phase = ltb-true (s .phase) 1920 (and-elim-right (isBand (s .band)) (ltb (s .phase) 1920) h) in
     and-intro band (lt-ltb (phaseAfter (s .phase) steps) 1920 (phase-below (s .phase) steps phase))
 
+-- the samples written are those of the bits of the accepted calls
+pub samples-written : (s : Transmitter) (calls : List Call) → samplesWritten s calls ≡ send (s .phase) (stepsSent s calls)
+samples-written s calls = joined-front afterBits samplesOf sending-laws callOf bitsOf call-runs calls s
+
 pub continuous : (s : Transmitter) (calls : List Call) → Continuous s calls
 continuous s calls =
     record {
-      long = ap length wrote ∙ length-send (s .phase) (stepsSent s calls);
-      sample = λ i h. ap (λ (l : List ℤ). getD l i (pos 0)) wrote ∙ send-at (s .phase) (stepsSent s calls) i h;
+      long = ap length (samples-written s calls) ∙ length-send (s .phase) (stepsSent s calls);
+      sample = λ i h. ap (λ (l : List ℤ). getD l i (pos 0)) (samples-written s calls) ∙ send-at (s .phase) (stepsSent s calls) i h;
       phase = ap (λ (t : Transmitter). t .phase % 1920) state ∙ phase-total (s .phase) (stepsSent s calls);
       band = ap (λ (t : Transmitter). t .band) state;
       range = λ h. rw state (stays s (stepsSent s calls) h);
     }
   where
-    wrote : samplesWritten s calls ≡ send (s .phase) (stepsSent s calls)
-    wrote = joined-front afterBits samplesOf sending-laws callOf bitsOf call-runs calls s
-
     state : stateAfter callOf s calls ≡ record { band = s .band; phase = phaseAfter (s .phase) (stepsSent s calls) }
     state = joined-state afterBits samplesOf sending-laws callOf bitsOf call-runs calls s

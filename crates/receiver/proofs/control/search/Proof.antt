@@ -13,7 +13,7 @@ returns-2 : tie.Need-returns-2
 returns-2 c =
     let a = c .before .args in
     sym
-    (⊎-elim (λ w. search-mark (a .run) (a .d) (w .0 .taken) (w .1 .left)) (λ w. search-short (a .run) (a .d) (w .left)) (c .if1 .came))
+    (⊎-elim (λ w. search-mark (a .run) (a .d) (w .1 .left)) (λ w. search-short (a .run) (a .d) (w .left)) (c .if1 .came))
 
 pub search-spec : {M : Type 1} → statement M
 search-spec = tie.close (tie.spec returns returns-2)

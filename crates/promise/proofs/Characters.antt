@@ -1,0 +1,183 @@
+-- One character: where the control stands before the window with t of its samples is read, and that each window keeps it there.
+-- The start bit is found at a window with 15 to 19 samples of the character, and slot m, 16 + 32 m windows later, is taken at one
+-- with 31 + 32 m to 35 + 32 m. The window with t samples comes with the character's sample t - 1: the event, at slot 9, comes with
+-- its sample 318 to 322, counted from 0.
+-- Assumes nothing.
+use mathlib.Core.Path.{_≡_, refl, sym, ap, _∙_, subst}
+use mathlib.Core.Bool.{true, false, false≢true}
+use mathlib.Core.List.{List, [], _∷_}
+use mathlib.Core.Logic.{_⊎_, inl, inr, ⊎-elim}
+use Prim.Native.Nat.{ℕ, zero, suc, _+_, _*_, _-_, _^_, _/_, _%_, _≤_, _<_}
+use native.Mathlib.Decide.{decLe, ℕ-discrete}
+use native.Mathlib.Nat.{mod-eq-of-lt}
+use native.Mathlib.Numerals.{add-one, sub-one, one-add}
+use native.Mathlib.Omega.{arith}
+use lib.ListN.{getD}
+use lib.Pow.{mod-pow-add}
+use Rattle.transmitter.specs.Samples.{charBits}
+use Rattle.transmitter.proofs.Laws.{bitAt, bit-start, bit-data, bit-stop}
+use Rattle.receiver.specs.declared.Decision.{Decision}
+use Rattle.receiver.specs.declared.Stage.the-variants.{Searching, Waiting}
+use Rattle.receiver.specs.Step.{Control, quiet, gathered}
+use Rattle.receiver.proofs.Rules.{wait-taken, start-found, data-bit}
+use Rattle.margin.specs.Windows.{isSpace}
+use Rattle.promise.proofs.Steps.{at, reads, Moves, moves-on, full, goes, waits, searches, finds, stops, either-bit}
+use Rattle.promise.proofs.Windows.{Read}
+
+-- ---- before a character, and in every mark bit that follows a mark bit
+
+-- With k samples of the next bit: the search goes on, or the stop slot of the character before is still to be taken; Y are the
+-- events behind that.
+pub data Resting (Y : List ℕ) (k : ℕ) : Control → List ℕ → Type 0 where
+  free : Resting Y k (at 32 Searching) Y
+  owing : (byte wait : ℕ) → 1 ≤ wait → wait + k ≤ 4 → Resting Y k (at 32 (Waiting wait 9 byte)) (byte ∷ Y)
+
+pub rests : (Y : List ℕ) (k : ℕ) (d : Decision) → d ≡ reads 1 → (s : Control) (X : List ℕ) → Resting Y k s X → Moves (Resting Y (suc k)) s d X
+rests Y k d e s X free = searches d e free
+rests Y k d e s X (owing byte zero a b) = absurd (omega arith)
+rests Y k d e s X (owing byte (suc zero) a b) = stops d e byte free
+rests Y k d e s X (owing byte (suc (suc wait)) a b) = waits d 32 (full d (ap (λ (x : Decision). x .good) e)) wait 9 byte (owing byte (suc wait) (omega arith) (omega arith))
+
+-- ---- the byte gathered
+
+-- before slot m of the character c
+abbrev pub soFar : ℕ → ℕ → ℕ
+soFar c zero = 0
+soFar c (suc i) = c % 2 ^ i
+
+with-bit : (i byte bit : ℕ) → bit < 2 → gathered (suc i) byte (isSpace bit) ≡ bit * 2 ^ i + byte
+with-bit i byte zero h = omega arith
+with-bit i byte (suc zero) h = ap (λ (n : ℕ). byte + 2 ^ n) (sub-one (suc i)) ∙ omega arith
+with-bit i byte (suc (suc bit)) h = absurd (omega arith)
+
+gather : (c i : ℕ) → gathered (suc i) (c % 2 ^ i) (isSpace (c / 2 ^ i % 2)) ≡ c % 2 ^ suc i
+gather c i =
+    with-bit i (c % 2 ^ i) (c / 2 ^ i % 2) (below (c / 2 ^ i)) ∙ sym (mod-pow-add c 1 i) ∙ ap (λ (k : ℕ). c % 2 ^ k) (one-add i)
+  where
+    below : (x : ℕ) → x % 2 < 2
+    below x = omega arith
+
+-- ---- a character
+
+-- the bit before bit j: before the start bit stands a mark
+abbrev pub bitBefore : ℕ → ℕ → ℕ
+bitBefore c j = getD (1 ∷ charBits c) j 1
+
+-- What is read in the window with t samples of the character c: the mark before it, and bit m from 19 samples of it on, up to 14 of
+-- the next.
+record Heard (c t : ℕ) (d : Decision) : Type 0 where
+  good : d .good ≡ true
+  lead : t ≤ 14 → d ≡ reads 1
+  held : (m : ℕ) → 19 + 32 * m ≤ t → t ≤ 46 + 32 * m → d ≡ reads (bitAt c m)
+
+module _ (c : ℕ) (d : Decision) where
+  hear-lead : (j k : ℕ) → Read (bitBefore c j) (bitAt c j) k d → 32 * j + k ≤ 14 → d ≡ reads 1
+  hear-lead zero k r h = r .earlier (omega arith)
+  hear-lead (suc j) k r h = absurd (omega arith)
+
+  hear-held : (j k m : ℕ) → k < 32 → Read (bitBefore c j) (bitAt c j) k d → 19 + 32 * m ≤ 32 * j + k → 32 * j + k ≤ 46 + 32 * m → d ≡ reads (bitAt c m)
+  hear-held j k m l r h g = go j r h g (ℕ-discrete m j)
+    where
+      go : (j : ℕ) → Read (bitBefore c j) (bitAt c j) k d → 19 + 32 * m ≤ 32 * j + k → 32 * j + k ≤ 46 + 32 * m → Dec (m ≡ j) → d ≡ reads (bitAt c m)
+      go j r h g (yes p) = rw p (r .later (omega arith))
+      go zero r h g (no p) = absurd (omega arith)
+      go (suc j) r h g (no p) = let e : m ≡ j = omega arith in rw e (r .earlier (omega arith))
+
+  hear : (j k : ℕ) → k < 32 → Read (bitBefore c j) (bitAt c j) k d → Heard c (32 * j + k) d
+  hear j k l r = record { good = r .good; lead = hear-lead j k r; held = λ m. hear-held j k m l r }
+
+-- The control before that window: X are the events still to come, and Y those behind this character.
+pub data Within (c : ℕ) (Y : List ℕ) (t : ℕ) : Control → List ℕ → Type 0 where
+  -- its start is not yet found
+  before : {s : Control} {X : List ℕ} → t ≤ 19 → Resting (c ∷ Y) t s X → Within c Y t s X
+  -- slot m is to be taken at the window with wait + t - 1 samples
+  reading : (wait m byte : ℕ) → 1 ≤ wait → m ≤ 9 → 32 + 32 * m ≤ wait + t → wait + t ≤ 36 + 32 * m → byte ≡ soFar c m
+      → Within c Y t (at 32 (Waiting wait m byte)) (c ∷ Y)
+  -- its event is given
+  ended : 320 ≤ t → Within c Y t (at 32 Searching) Y
+
+module _ (c : ℕ) (small : c < 256) (Y : List ℕ) (t : ℕ) (d : Decision) (h : Heard c t d) where
+  abbrev Next : Control → List ℕ → Type 0
+  Next = Within c Y (suc t)
+
+  not-both : d ≡ reads 1 → d ≡ reads 0 → ⊥
+  not-both p q = false≢true (ap (λ (x : Decision). x .space) (sym p ∙ q))
+
+  step-before : t ≤ 19 → (s : Control) (X : List ℕ) → Resting (c ∷ Y) t s X → Moves Next s d X
+  step-before l s X r = early (decLe t 14) s X r
+    where
+      early : Dec (t ≤ 14) → (s : Control) (X : List ℕ) → Resting (c ∷ Y) t s X → Moves Next s d X
+      early (yes p) s X r = moves-on (λ s X r. before (omega arith) r) (rests (c ∷ Y) t d (h .lead p) s X r)
+      early (no p) s X (owing byte wait a b) = absurd (omega arith)
+      early (no p) s X free = ⊎-elim mark space (either-bit d (h .good))
+        where
+          mark : d ≡ reads 1 → Moves Next (at 32 Searching) d (c ∷ Y)
+          mark e = searches d e (go (decLe t 18))
+            where
+              go : Dec (t ≤ 18) → Next (at 32 Searching) (c ∷ Y)
+              go (yes q) = before (omega arith) free
+              go (no q) = absurd (not-both e (h .held 0 (omega arith) (omega arith) ∙ ap reads (bit-start c)))
+
+          space : d ≡ reads 0 → Moves Next (at 32 Searching) d (c ∷ Y)
+          space e = finds d e (reading 16 0 0 (omega arith) (omega arith) (omega arith) (omega arith) refl)
+
+  -- a slot is taken at this window
+  step-start : 32 ≤ 1 + t → 1 + t ≤ 36 → (byte : ℕ) → Moves Next (at 32 (Waiting 1 0 byte)) d (c ∷ Y)
+  step-start a b byte =
+      goes d 0 (h .held 0 (omega arith) (omega arith) ∙ ap reads (bit-start c)) (Waiting 1 0 byte) (quiet (Waiting 32 1 0)) (c ∷ Y)
+      (wait-taken 32 (reads 0) 1 0 byte refl ∙ start-found byte (reads 0) 0 refl refl refl)
+      (reading 32 1 0 (omega arith) (omega arith) (omega arith) (omega arith) (omega arith))
+
+  step-data : (i byte : ℕ) → i < 8 → 32 + 32 * suc i ≤ 1 + t → 1 + t ≤ 36 + 32 * suc i → byte ≡ soFar c (suc i)
+      → Moves Next (at 32 (Waiting 1 (suc i) byte)) d (c ∷ Y)
+  step-data i byte l a b e =
+      let bit : ℕ = c / 2 ^ i % 2 in
+      let sum : gathered (suc i) byte (isSpace bit) ≡ soFar c (suc i + 1) =
+      ap (λ (x : ℕ). gathered (suc i) x (isSpace bit)) e ∙ gather c i ∙ ap (soFar c) (sym (add-one (suc i))) in
+      goes d bit (h .held (suc i) (omega arith) (omega arith) ∙ ap reads (bit-data c i l)) (Waiting 1 (suc i) byte)
+      (quiet (Waiting 32 (suc i + 1) (gathered (suc i) byte (isSpace bit)))) (c ∷ Y)
+      (wait-taken 32 (reads bit) 1 (suc i) byte refl ∙ data-bit byte (reads bit) (suc i) (λ z. omega arith) refl (omega arith))
+      (reading 32 (suc i + 1) (gathered (suc i) byte (isSpace bit)) (omega arith) (omega arith) (omega arith) (omega arith) sum)
+
+  step-stop : (byte : ℕ) → 320 ≤ 1 + t → 1 + t ≤ 324 → byte ≡ soFar c 9 → Moves Next (at 32 (Waiting 1 9 byte)) d (c ∷ Y)
+  step-stop byte a b e =
+      let q : c ≡ byte = sym (e ∙ mod-eq-of-lt small) in
+      subst (λ (x : ℕ). Moves Next (at 32 (Waiting 1 9 byte)) d (x ∷ Y)) (sym q)
+      (stops d (h .held 9 (omega arith) (omega arith) ∙ ap reads (bit-stop c)) byte (ended (omega arith)))
+
+  step-reading : (wait m byte : ℕ) → 1 ≤ wait → m ≤ 9 → 32 + 32 * m ≤ wait + t → wait + t ≤ 36 + 32 * m → byte ≡ soFar c m
+      → Moves Next (at 32 (Waiting wait m byte)) d (c ∷ Y)
+  step-reading zero m byte l n a b e = absurd (omega arith)
+  step-reading (suc (suc wait)) m byte l n a b e =
+      waits d 32 (full d (h .good)) wait m byte (reading (suc wait) m byte (omega arith) n (omega arith) (omega arith) e)
+  step-reading (suc zero) zero byte l n a b e = step-start (omega arith) (omega arith) byte
+  step-reading (suc zero) (suc i) byte l n a b e = go (ℕ-discrete i 8)
+    where
+      go : Dec (i ≡ 8) → Moves Next (at 32 (Waiting 1 (suc i) byte)) d (c ∷ Y)
+      go (yes p) = rw p (step-stop byte (omega arith) (omega arith) (e ∙ ap (λ (k : ℕ). soFar c (suc k)) p))
+      go (no p) = step-data i byte (omega arith) a b e
+
+  step : t < 320 → (s : Control) (X : List ℕ) → Within c Y t s X → Moves Next s d X
+  step l s X (before a r) = step-before a s X r
+  step l s X (reading wait m byte a b p q e) = step-reading wait m byte a b p q e
+  step l s X (ended a) = absurd (omega arith)
+
+-- window k of bit j
+pub within-step : (c : ℕ) → c < 256 → (Y : List ℕ) (j k : ℕ) → j < 10 → k < 32 → (d : Decision) → Read (bitBefore c j) (bitAt c j) k d
+    → (s : Control) (X : List ℕ) → Within c Y (32 * j + k) s X → Moves (Within c Y (32 * j + suc k)) s d X
+within-step c small Y j k l h d r s X w =
+    let e : 32 * j + suc k ≡ suc (32 * j + k) = omega arith in
+    rw e (step c small Y (32 * j + k) d (hear c d j k h r) (omega arith) s X w)
+
+-- ---- into a character and out of it
+
+pub enter : (c : ℕ) (Y : List ℕ) (s : Control) (X : List ℕ) → Resting (c ∷ Y) 0 s X → Within c Y 0 s X
+enter c Y s X r = before (omega arith) r
+
+pub leave : (c : ℕ) → c < 256 → (Y : List ℕ) (s : Control) (X : List ℕ) → Within c Y 320 s X → Resting Y 0 s X
+leave c small Y s X (before a r) = absurd (omega arith)
+leave c small Y s X (reading wait m byte a b p q e) =
+    let nine : m ≡ 9 = omega arith in
+    let whole : byte ≡ c = e ∙ ap (soFar c) nine ∙ mod-eq-of-lt small in
+    rw (nine, whole) (owing c wait a (omega arith))
+leave c small Y s X (ended a) = free

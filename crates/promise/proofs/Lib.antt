@@ -1,0 +1,6 @@
+pub mod Steps
+pub mod Along
+pub mod Windows
+pub mod Characters
+pub mod Recording
+pub mod Promise

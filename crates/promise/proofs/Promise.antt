@@ -1,0 +1,98 @@
+-- Demand 3, from what a receiver gives of a recording and the laws of lists of calls.
+-- Assumes nothing.
+use mathlib.Core.Path.{_≡_, refl, sym, ap, _∙_, subst}
+use mathlib.Core.List.{List, [], _∷_, _++_, append-assoc}
+use Prim.Native.Nat.{ℕ, zero, suc, zero-le}
+use lib.IntN.{ℤ, pos}
+use Rattle.integers.specs.Near.{Near, none, more}
+use Rattle.integers.proofs.Near.{near-append}
+use Rattle.calls.specs.Lists.{joined, acceptedCalls, each}
+use Rattle.calls.proofs.Lists.{joined-each}
+use Rattle.tones.specs.declared.Tones.{Tones}
+use Rattle.tones.specs.Bands.{tonesOf}
+use Rattle.transmitter.specs.Samples.{sendBits, idleBits, charBits, charactersBits}
+use Rattle.transmitter.specs.Calls as transmitter
+use Rattle.transmitter.specs.Lists as sending
+use Rattle.transmitter.proofs.Lists.{samples-written}
+use Rattle.receiver.specs.Calls as receiver
+use Rattle.receiver.specs.Lists as reading
+use Rattle.receiver.proofs.Lists.{one-reading}
+use Rattle.receiver.proofs.Windows.{by-windows}
+use Rattle.margin.specs.Windows.{Margins}
+use Rattle.margin.proofs.Bands.{margins}
+use Rattle.promise.specs.Recordings as recordings
+use Rattle.promise.specs.Recordings.{AreBytes, bytesOf, EndsSending, IsSending, trailer, text, leader, silence, Recording, Transmission, characters, events}
+use Rattle.promise.specs.Demand.{disturbance, ReadAsSent, Demand3}
+use Rattle.promise.proofs.Recording.{recorded}
+
+-- ---- the bits of a sending
+
+characters-append : (bs cs : List ℕ) → charactersBits (bs ++ cs) ≡ charactersBits bs ++ charactersBits cs
+unfolding charactersBits
+characters-append [] cs = refl
+characters-append (b ∷ bs) cs =
+    ap (λ (l : List ℕ). charBits b ++ l) (characters-append bs cs) ∙ sym (append-assoc (charBits b) (charactersBits bs) (charactersBits cs))
+
+end-bits : (calls : List sending.Call) → EndsSending calls → each sending.bitsOf calls ≡ charactersBits (each bytesOf calls) ++ idleBits
+unfolding charactersBits
+end-bits calls (trailer lent) = refl
+end-bits calls (text bytes lent {calls = rest} e) =
+    ap (λ (l : List ℕ). charactersBits bytes ++ l) (end-bits rest e)
+    ∙ sym (append-assoc (charactersBits bytes) (charactersBits (each bytesOf rest)) idleBits)
+    ∙ ap (λ (l : List ℕ). l ++ idleBits) (sym (characters-append bytes (each bytesOf rest)))
+
+sending-bits : (calls : List sending.Call) → IsSending calls → each sending.bitsOf calls ≡ idleBits ++ (charactersBits (each bytesOf calls) ++ idleBits)
+sending-bits calls (leader lent {calls = rest} e) = ap (λ (l : List ℕ). idleBits ++ l) (end-bits rest e)
+
+-- ---- one transmission
+
+near-silence : (noise n : ℕ) → Near noise (silence n) (silence n)
+near-silence noise zero = none
+near-silence noise (suc n) = more zero-le (near-silence noise n)
+
+module _ {noise : ℕ} (t : Transmission noise) (M : Margins noise (tonesOf (t .band))) where
+  abbrev tones : Tones
+  tones = tonesOf (t .band)
+
+  -- the samples sent are those of the leader, the characters and the trailer
+  sent : sending.samplesWritten (transmitter.fresh (t .band)) (t .sent) ≡ sendBits tones 0 (idleBits ++ (charactersBits (characters t) ++ idleBits))
+  sent =
+      samples-written (transmitter.fresh (t .band)) (t .sent)
+      ∙ ap (sendBits tones 0)
+      (joined-each sending.callOf sending.bitsOf (transmitter.fresh (t .band)) (t .sent)
+      ∙ sending-bits (acceptedCalls sending.callOf (transmitter.fresh (t .band)) (t .sent)) (t .shape)
+      ∙ ap (λ (cs : List ℕ). idleBits ++ (charactersBits cs ++ idleBits))
+      (sym (joined-each sending.callOf bytesOf (transmitter.fresh (t .band)) (t .sent))))
+
+  pub read-as-sent : events t ≡ characters t
+  read-as-sent =
+      one-reading (receiver.fresh (t .band)) (t .blocks) .events
+      ∙ by-windows (receiver.fresh (t .band)) samples refl .events
+      ∙ recorded tones M (t .recording .after) (characters t) (t .bytes) (t .recording .before) (silence 31 ++ samples) (near-append (near-silence noise 31) near)
+    where
+      samples : List ℤ
+      samples = reading.samplesRead (receiver.fresh (t .band)) (t .blocks)
+
+      near : Near noise (silence (t .recording .before) ++ (sendBits tones 0 (idleBits ++ (charactersBits (characters t) ++ idleBits)) ++ silence (t .recording .after))) samples
+      near = rw (t .read, ← sent) (t .recording .near)
+
+  pub sound : AreBytes (events t)
+  sound = subst AreBytes (sym read-as-sent) (t .bytes)
+
+-- ---- two of them
+
+module _ {noise : ℕ} (M : (band : ℕ) → Margins noise (tonesOf band)) where
+  pub both-read : (a b : Transmission noise) → ReadAsSent a b
+  both-read a b =
+      let first = read-as-sent a (M (a .band)) in
+      let second = read-as-sent b (M (b .band)) in
+      record {
+        first = first;
+        second = second;
+        first-sound = sound a (M (a .band));
+        second-sound = sound b (M (b .band));
+        equal = (λ e. sym first ∙ e ∙ second, λ e. first ∙ e ∙ sym second);
+      }
+
+pub demand-3 : Demand3
+demand-3 = both-read margins
