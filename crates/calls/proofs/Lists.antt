@@ -8,6 +8,7 @@ use Prim.Native.Nat.{ℕ, suc}
 use lib.Dec.{eqb·suc-zero}
 use lib.ListN.{length, drop}
 use lib.Seq.{take-append-seam}
+use Rattle.integers.specs.All.{All, none, more}
 use Rattle.calls.specs.Outcome.{Outcome, refused, accepted, isAccepted, front}
 use Rattle.calls.specs.Runs as runs
 use Rattle.calls.specs.Lists.{joined, acceptedCalls, stateAfter, each}
@@ -62,3 +63,18 @@ module _ {S A C B : Type 0} (rule : S → C → Outcome S A) (f : C → List B) 
       one : (b : Bool) (m : List C) {l : List B} → l ≡ each f m → cond b (f c) [] ++ l ≡ each f (cond b (c ∷ []) [] ++ m)
       one true m e = ap (λ (l : List B). f c ++ l) e
       one false m e = e
+
+-- an accepted call that gives a state with P
+pub record Accepts {S A : Type 0} (P : S → Type 0) (o : Outcome S A) : Type 0 where
+  pub yes : isAccepted o ≡ true
+  pub kept : P (o .state)
+
+-- from a state with P every call with Q is accepted
+module _ {S A C : Type 0} (rule : S → C → Outcome S A) (P : S → Type 0) (Q : C → Type 0)
+    (one : (s : S) (c : C) → P s → Q c → Accepts P (rule s c)) where
+  pub all-accepted : (cs : List C) → All Q cs → (s : S) → P s → acceptedCalls rule s cs ≡ cs
+  unfolding runs.gives
+  all-accepted [] none s p = refl
+  all-accepted (c ∷ cs) (more q qs) s p =
+      let a = one s c p q in
+      rw (a .yes) (ap (λ (l : List C). c ∷ l) (all-accepted cs qs (rule s c .state) (a .kept)))

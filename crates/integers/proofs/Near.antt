@@ -4,18 +4,35 @@
 use mathlib.Core.Path.{_≡_, refl, sym, ap, _∙_}
 use mathlib.Core.List.{List, [], _∷_, _++_}
 use Prim.Native.Nat.{ℕ, zero, suc, _+_, _*_, _≤_, zero-le}
-use native.Mathlib.Nat.{le-trans, add-le-add, mul-le-mul-right, mul-add}
-use lib.IntN.{ℤ, negℤ, natAbs, _+ℤ_, _-ℤ_, _*ℤ_, negℤ-+ℤ}
-use lib.ListN.{length, take, drop}
-use Rattle.integers.specs.Sums.{size, dot}
-use Rattle.integers.specs.Near.{Near, none, more}
+use native.Mathlib.Nat.{le-refl, le-trans, add-le-add, mul-le-mul-right, mul-add}
+use lib.IntN.{ℤ, pos, negℤ, natAbs, _+ℤ_, _-ℤ_, _*ℤ_, negℤ-+ℤ, +ℤ-comm, +ℤ-invr, +ℤ-negℤ-cancel}
+use lib.ListN.{length, getD, take, drop}
+use Rattle.integers.specs.Sums.{size, dot, Bounded}
+use Rattle.integers.specs.Near.{altered, Near, none, more}
 use Rattle.integers.proofs.Ring.{+ℤ-swap, +ℤ-*ℤ, negℤ-*ℤ}
-use Rattle.integers.proofs.Size.{natAbs-+ℤ, natAbs-*ℤ}
+use Rattle.integers.proofs.Size.{natAbs-+ℤ, natAbs-*ℤ, natAbs-near}
 
 module _ {n : ℕ} where
   pub near-length : {xs ys : List ℤ} → Near n xs ys → length xs ≡ length ys
   near-length none = refl
   near-length (more h r) = ap suc (near-length r)
+
+  as-it-was : (x : ℤ) → natAbs (x -ℤ x) ≤ n
+  as-it-was x = rw (+ℤ-invr x) zero-le
+
+  pub near-self : (xs : List ℤ) → Near n xs xs
+  near-self [] = none
+  near-self (x ∷ xs) = more (as-it-was x) (near-self xs)
+
+  changed : (x d : ℤ) → natAbs d ≤ n → natAbs (x +ℤ d -ℤ x) ≤ n
+  changed x d h = rw (+ℤ-comm x d, +ℤ-negℤ-cancel d x) h
+
+  -- numbers of at most n are added
+  pub near-altered : (xs ds : List ℤ) → Bounded n ds → Near n xs (altered xs ds)
+  unfolding altered
+  near-altered [] ds b = none
+  near-altered (x ∷ xs) [] b = near-self (x ∷ xs)
+  near-altered (x ∷ xs) (d ∷ ds) b = more (changed x d (b .at 0)) (near-altered xs ds (record { at = λ k. b .at (suc k) }))
 
   pub near-append : {xs ys us vs : List ℤ} → Near n xs ys → Near n us vs → Near n (xs ++ us) (ys ++ vs)
   near-append none k = k
@@ -30,6 +47,15 @@ module _ {n : ℕ} where
   near-drop zero r = r
   near-drop (suc k) none = none
   near-drop (suc k) (more h r) = near-drop k r
+
+-- and no number is larger than it was by more than n
+near-at : {n : ℕ} {xs ys : List ℤ} → Near n xs ys → (k : ℕ) → natAbs (getD ys k (pos 0)) ≤ natAbs (getD xs k (pos 0)) + n
+near-at none k = zero-le
+near-at (more {x} {y} h r) zero = natAbs-near x y h .1
+near-at (more h r) (suc k) = near-at r k
+
+pub near-bounded : {m n : ℕ} {xs ys : List ℤ} → Near n xs ys → Bounded m xs → Bounded (m + n) ys
+near-bounded {n = n} r b = record { at = λ k. le-trans (near-at r k) (add-le-add (b .at k) (le-refl n)) }
 
 -- one place: d of at most n with the weight w, before a rest of at most n times m
 place : (n : ℕ) (d w r : ℤ) (m : ℕ) → natAbs d ≤ n → natAbs r ≤ n * m → natAbs (d *ℤ w +ℤ r) ≤ n * (natAbs w + m)

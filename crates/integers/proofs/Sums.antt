@@ -1,14 +1,14 @@
 -- Laws of sums: a sum of products as a dot product, and a dot product computed place by place and of opposite numbers.
 -- Assumes nothing.
 use mathlib.Core.Path.{_≡_, refl, sym, ap, ap₂, _∙_}
-use mathlib.Core.List.{List, [], _∷_, map}
-use Prim.Native.Nat.{ℕ, zero, suc, _+_, _<_}
+use mathlib.Core.List.{List, [], _∷_, _++_, map}
+use Prim.Native.Nat.{ℕ, zero, suc, _+_, _<_, _≤_, zero-le}
 use native.Mathlib.Numerals.{add-one}
 use native.Mathlib.Omega.{arith}
 use lib.IntN.{ℤ, pos, negℤ, natAbs, _+ℤ_, _*ℤ_, +ℤ-assoc, zero-*ℤ, negℤ-+ℤ}
-use lib.ListN.{length, getD, drop}
+use lib.ListN.{length, getD, drop, replicate}
 use lib.Seq.{drop-cons}
-use Rattle.integers.specs.Sums.{dot, sumTo}
+use Rattle.integers.specs.Sums.{dot, sumTo, Bounded}
 use Rattle.integers.proofs.Ring.{negℤ-*ℤ}
 use Rattle.integers.proofs.Size.{natAbs-negℤ}
 
@@ -52,3 +52,21 @@ unfolding dot
 dot-next xs ws k a h l =
     rw (add-one k, drop-cons xs k (pos 0) h, drop-cons ws k (pos 0) l)
     (sym (+ℤ-assoc a (products xs ws k) (dot (drop (suc k) xs) (drop (suc k) ws))))
+
+-- ---- bounds of lists
+
+pub bounded-append : {n : ℕ} (xs ys : List ℤ) → Bounded n xs → Bounded n ys → Bounded n (xs ++ ys)
+bounded-append {n} xs ys b c = record { at = λ k. entry xs b k }
+  where
+    entry : (l : List ℤ) → Bounded n l → (k : ℕ) → natAbs (getD (l ++ ys) k (pos 0)) ≤ n
+    entry [] b k = c .at k
+    entry (x ∷ l) b zero = b .at 0
+    entry (x ∷ l) b (suc k) = entry l (record { at = λ i. b .at (suc i) }) k
+
+pub bounded-zeros : (n m : ℕ) → Bounded n (replicate m (pos 0))
+bounded-zeros n m = record { at = entry m }
+  where
+    entry : (m k : ℕ) → natAbs (getD (replicate m (pos 0)) k (pos 0)) ≤ n
+    entry zero k = zero-le
+    entry (suc m) zero = zero-le
+    entry (suc m) (suc k) = entry m k

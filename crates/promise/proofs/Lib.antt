@@ -4,3 +4,4 @@ pub mod Windows
 pub mod Characters
 pub mod Recording
 pub mod Promise
+pub mod Possible

@@ -2,10 +2,10 @@
 -- Assumes nothing.
 use mathlib.Core.Path.{_≡_, refl, sym, ap, _∙_, subst}
 use mathlib.Core.List.{List, [], _∷_, _++_, append-assoc}
-use Prim.Native.Nat.{ℕ, zero, suc, zero-le}
+use Prim.Native.Nat.{ℕ}
 use lib.IntN.{ℤ, pos}
-use Rattle.integers.specs.Near.{Near, none, more}
-use Rattle.integers.proofs.Near.{near-append}
+use Rattle.integers.specs.Near.{Near}
+use Rattle.integers.proofs.Near.{near-self, near-append, near-altered}
 use Rattle.calls.specs.Lists.{joined, acceptedCalls, each}
 use Rattle.calls.proofs.Lists.{joined-each}
 use Rattle.tones.specs.declared.Tones.{Tones}
@@ -46,9 +46,10 @@ sending-bits calls (leader lent {calls = rest} e) = ap (λ (l : List ℕ). idleB
 
 -- ---- one transmission
 
-near-silence : (noise n : ℕ) → Near noise (silence n) (silence n)
-near-silence noise zero = none
-near-silence noise (suc n) = more zero-le (near-silence noise n)
+-- a recording differs from what was sent by at most the noise, at each sample
+pub recording-near : {noise : ℕ} {samples recorded : List ℤ} (r : Recording noise samples recorded)
+    → Near noise (silence (r .before) ++ (samples ++ silence (r .after))) recorded
+recording-near {samples = samples} r = rw (r .sum) (near-altered (silence (r .before) ++ (samples ++ silence (r .after))) (r .added) (r .small))
 
 module _ {noise : ℕ} (t : Transmission noise) (M : Margins noise (tonesOf (t .band))) where
   abbrev tones : Tones
@@ -68,13 +69,13 @@ module _ {noise : ℕ} (t : Transmission noise) (M : Margins noise (tonesOf (t .
   read-as-sent =
       one-reading (receiver.fresh (t .band)) (t .blocks) .events
       ∙ by-windows (receiver.fresh (t .band)) samples refl .events
-      ∙ recorded tones M (t .recording .after) (characters t) (t .bytes) (t .recording .before) (silence 31 ++ samples) (near-append (near-silence noise 31) near)
+      ∙ recorded tones M (t .recording .after) (characters t) (t .bytes) (t .recording .before) (silence 31 ++ samples) (near-append (near-self (silence 31)) near)
     where
       samples : List ℤ
       samples = reading.samplesRead (receiver.fresh (t .band)) (t .blocks)
 
       near : Near noise (silence (t .recording .before) ++ (sendBits tones 0 (idleBits ++ (charactersBits (characters t) ++ idleBits)) ++ silence (t .recording .after))) samples
-      near = rw (t .read, ← sent) (t .recording .near)
+      near = rw (t .read, ← sent) (recording-near (t .recording))
 
   pub sound : AreBytes (events t)
   sound = subst AreBytes (sym read-as-sent) (t .bytes)

@@ -1,2 +1,3 @@
 pub mod Recordings
 pub mod Demand
+pub mod Possible

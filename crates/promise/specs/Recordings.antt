@@ -9,7 +9,8 @@ use Prim.Native.Nat.{ℕ, _<_}
 use lib.IntN.{ℤ, pos}
 use lib.ListN.{replicate}
 use Rattle.integers.specs.All.{All}
-use Rattle.integers.specs.Near.{Near}
+use Rattle.integers.specs.Near.{altered}
+use Rattle.integers.specs.Sums.{Bounded}
 use Rattle.calls.specs.Lists.{joined, acceptedCalls}
 use Rattle.tones.specs.Bands.{isBand}
 use Rattle.transmitter.specs.Calls as transmitter
@@ -55,7 +56,9 @@ silence n = replicate n (pos 0)
 pub record Recording (noise : ℕ) (samples recorded : List ℤ) : Type 0 where
   pub before : ℕ
   pub after : ℕ
-  pub near : Near noise (silence before ++ (samples ++ silence after)) recorded
+  pub added : List ℤ
+  pub small : Bounded noise added
+  pub sum : recorded ≡ altered (silence before ++ (samples ++ silence after)) added
 
 -- ---- the three together
 

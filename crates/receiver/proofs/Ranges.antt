@@ -23,7 +23,7 @@ use Rattle.receiver.specs.declared.Stage.the-variants.{Searching, Waitin
 use Rattle.receiver.specs.declared.Receiver.{Receiver}
 use Rattle.receiver.specs.Step.{runAfter, gathered, taken, nextOf, Control, controlAfter, controlOf, decisionAt, stepOf, stateAfter}
 use Rattle.receiver.specs.Windows.{follow}
-use Rattle.receiver.specs.Calls.{isWait, isSlot, isStage, isControl, inRange}
+use Rattle.receiver.specs.Calls.{fresh, isWait, isSlot, isStage, isControl, inRange}
 
 -- ---- waits
 
@@ -181,3 +181,9 @@ module _ (s : Receiver) where
     pub range-control : areSamples (s .window) ≡ true → inRange s ≡ isControl (controlOf s)
     unfolding inRange
     range-control e = rw (b, e)
+
+-- ---- a fresh state of a band is in its ranges
+
+pub fresh-kept : (band : ℕ) → isBand band ≡ true → inRange (fresh band) ≡ true
+unfolding inRange areSamples isControl isStage
+fresh-kept band h = and-intro h refl

@@ -3,11 +3,12 @@
 use mathlib.Core.Path.{_≡_, refl, sym, ap, _∙_}
 use mathlib.Core.Bool.{Bool, true, _&&_, and-assoc, and-true}
 use mathlib.Core.List.{List, [], _∷_, _++_}
-use mathlib.Mathlib.Data.Bool.Basic.{and-elim-left, and-elim-right}
+use mathlib.Mathlib.Data.Bool.Basic.{and-elim-left, and-elim-right, and-intro}
 use Prim.Native.Nat.{ℕ, zero, suc, _+_, _<_, _≤_, zero-le}
+use native.Mathlib.Nat.{le-trans, le-of-suc-le-suc}
 use native.Mathlib.Numerals.{add-one}
 use native.Mathlib.Omega.{arith}
-use borrow.Author.Tests.{leb-true}
+use borrow.Author.Tests.{leb-true, le-leb}
 use lib.IntN.{ℤ, pos, negsuc, natAbs}
 use lib.ListN.{length, getD, take, drop, take-append-drop, drop-of-length-le}
 use lib.Seq.{drop-cons}
@@ -49,6 +50,17 @@ size-at (x ∷ xs) h (suc k) = size-at xs (and-elim-right (isSample x) (areSampl
 
 pub samples-bound : (xs : List ℤ) → areSamples xs ≡ true → Bounded 8191 xs
 samples-bound xs h = record { at = size-at xs h }
+
+-- and numbers of that size are samples
+small-sample : (x : ℤ) → natAbs x ≤ 8191 → isSample x ≡ true
+small-sample (pos n) h = le-leb n 8191 h
+small-sample (negsuc n) h = rw (le-leb n 8190 (le-of-suc-le-suc h))
+
+pub bounded-samples : (xs : List ℤ) {n : ℕ} → n ≤ 8191 → Bounded n xs → areSamples xs ≡ true
+unfolding areSamples
+bounded-samples [] h b = refl
+bounded-samples (x ∷ xs) h b =
+    and-intro (small-sample x (le-trans (b .at 0) h)) (bounded-samples xs h (record { at = λ k. b .at (suc k) }))
 
 -- ---- a loop that tests them one by one: `good` says if those before place k are samples
 

@@ -1,8 +1,9 @@
 -- The cases of a call, by its tests, and what the code gives in each.
 -- Assumes nothing.
-use mathlib.Core.Path.{_≡_, _∙_, sym, ap, subst}
+use mathlib.Core.Path.{_≡_, refl, _∙_, sym, ap, subst}
 use mathlib.Core.Bool.{true, false, not}
 use mathlib.Core.List.{List}
+use mathlib.Mathlib.Data.Bool.Basic.{and-intro}
 use Prim.Native.Nat.{ℕ, _*_, _<_, _≤_}
 use borrow.Author.Tests.{lt-ltb, le-ltb}
 use lib.Dec.{ltb}
@@ -13,12 +14,17 @@ use Rattle.integers.proofs.Tests.{cond-case}
 use Rattle.integers.proofs.Lists.{sets-front}
 use Rattle.calls.specs.Outcome.{Outcome, outcome, refused}
 use Rattle.tones.specs.declared.Tones.{Tones}
-use Rattle.tones.specs.Bands.{tonesOf}
+use Rattle.tones.specs.Bands.{isBand, tonesOf}
 use Rattle.transmitter.specs.declared.Transmitter.{Transmitter}
 use Rattle.transmitter.specs.declared.Sent.{Sent}
 use Rattle.transmitter.specs.Samples.{idleBits, charactersBits, sendBits, phaseBits}
-use Rattle.transmitter.specs.Calls.{inRange, samplesOf, sent, idleOf, charactersOf}
+use Rattle.transmitter.specs.Calls.{fresh, inRange, samplesOf, sent, idleOf, charactersOf}
 use Rattle.transmitter.proofs.Laws.{length-bits}
+
+-- a fresh state of a band is in its ranges
+pub fresh-kept : (band : ℕ) → isBand band ≡ true → inRange (fresh band) ≡ true
+unfolding inRange
+fresh-kept band h = and-intro h refl
 
 module _ (s : Transmitter) (lent : List ℤ) where
   pub idle-2 : inRange s ≡ false → idleOf s lent ≡ refused 2 s lent

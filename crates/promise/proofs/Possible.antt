@@ -1,0 +1,163 @@
+-- Every message, every recording of it and every cut of that into blocks make a transmission: demand 3 is not empty. From the cases in
+-- which the calls are accepted.
+-- Assumes nothing.
+use mathlib.Core.Path.{_≡_, refl, sym, ap, _∙_, subst}
+use mathlib.Core.Bool.{true}
+use mathlib.Core.List.{List, [], _∷_, _++_}
+use mathlib.Mathlib.Data.Bool.Basic.{and-elim-left, and-elim-right, and-intro}
+use Prim.Native.Nat.{ℕ, _+_, _*_, _≤_}
+use native.Mathlib.Omega.{arith}
+use lib.Dec.{lit<}
+use lib.IntN.{ℤ, pos}
+use lib.ListN.{length, replicate, length-replicate}
+use Rattle.integers.specs.All.{All, none, more}
+use Rattle.integers.specs.Sums.{Bounded}
+use Rattle.integers.proofs.Near.{near-bounded}
+use Rattle.integers.proofs.Sums.{bounded-append, bounded-zeros}
+use Rattle.calls.specs.Outcome.{isAccepted}
+use Rattle.calls.specs.Runs.{after}
+use Rattle.calls.specs.Lists.{joined, acceptedCalls, each}
+use Rattle.calls.proofs.Lists.{joined-each, Accepts, all-accepted}
+use Rattle.tones.specs.Bands.{isBand, tonesOf}
+use Rattle.tones.specs.Samples.{areSamples}
+use Rattle.tones.proofs.Samples.{samples-append, bounded-samples}
+use Rattle.transmitter.specs.declared.Transmitter.{Transmitter}
+use Rattle.transmitter.specs.Calls as transmitter
+use Rattle.transmitter.specs.Lists as sending
+use Rattle.transmitter.proofs.Laws.{send-bound}
+use Rattle.transmitter.proofs.Rules.{idle-0, characters-0}
+use Rattle.transmitter.proofs.Rules as transmitter-rules
+use Rattle.transmitter.proofs.Lists.{samples-written, continuous}
+use Rattle.receiver.specs.declared.Receiver.{Receiver}
+use Rattle.receiver.specs.Calls as receiver
+use Rattle.receiver.specs.Lists as reading
+use Rattle.receiver.proofs.Ranges as receiver-ranges
+use Rattle.receiver.proofs.Calls.{block-0}
+use Rattle.receiver.proofs.Lists.{one-reading}
+use Rattle.promise.specs.Recordings.{AreBytes, bytesOf, EndsSending, IsSending, trailer, text, leader, silence, Recording, Transmission, characters}
+use Rattle.promise.specs.Demand.{disturbance}
+use Rattle.promise.specs.Possible.{concat, endingCalls, sendingCalls, blockCalls, IsText, Possible, NotVacuous}
+use Rattle.promise.proofs.Promise.{recording-near}
+
+-- ---- sending
+
+SendFits : sending.Call → Type 0
+SendFits (sending.idle lent) = 96 ≤ length lent
+SendFits (sending.characters bytes lent) = (length bytes ≤ 100) × (320 * length bytes ≤ length lent)
+
+send-accepts : (s : Transmitter) (c : sending.Call) → transmitter.inRange s ≡ true → SendFits c
+    → Accepts (λ (t : Transmitter). transmitter.inRange t ≡ true) (sending.callOf s c)
+unfolding SendFits after
+send-accepts s (sending.idle lent) h f = record { yes = ap isAccepted (idle-0 s lent h f); kept = continuous s (sending.idle lent ∷ []) .range h }
+send-accepts s (sending.characters bytes lent) h f =
+    record { yes = ap isAccepted (characters-0 s bytes lent h (f .0) (f .1)); kept = continuous s (sending.characters bytes lent ∷ []) .range h }
+
+idle-fits : SendFits (sending.idle (silence 96))
+unfolding SendFits
+idle-fits = omega (arith, length-replicate 96 (pos 0))
+
+text-fits : (t : List ℕ) → IsText t → SendFits (sending.characters t (silence (320 * length t)))
+unfolding SendFits
+text-fits t h = (h .few, omega (arith, length-replicate (320 * length t) (pos 0)))
+
+ending-fits : (texts : List (List ℕ)) → All IsText texts → All SendFits (endingCalls texts)
+ending-fits [] none = more idle-fits none
+ending-fits (t ∷ texts) (more h hs) = more (text-fits t h) (ending-fits texts hs)
+
+ending-shape : (texts : List (List ℕ)) → EndsSending (endingCalls texts)
+ending-shape [] = trailer (silence 96)
+ending-shape (t ∷ texts) = text t (silence (320 * length t)) (ending-shape texts)
+
+ending-bytes : (texts : List (List ℕ)) → each bytesOf (endingCalls texts) ≡ concat texts
+ending-bytes [] = refl
+ending-bytes (t ∷ texts) = ap (λ (l : List ℕ). t ++ l) (ending-bytes texts)
+
+all-append : {A : Type 0} {P : A → Type 0} {xs ys : List A} → All P xs → All P ys → All P (xs ++ ys)
+all-append none k = k
+all-append (more h r) k = more h (all-append r k)
+
+texts-bytes : (texts : List (List ℕ)) → All IsText texts → AreBytes (concat texts)
+texts-bytes [] none = none
+texts-bytes (t ∷ texts) (more h hs) = all-append (h .bytes) (texts-bytes texts hs)
+
+-- ---- reading
+
+record ReadFits (c : reading.Call) : Type 0 where
+  few : length (c .samples) ≤ 16384
+  samples : areSamples (c .samples) ≡ true
+  room : receiver.placesFor (length (c .samples)) ≤ length (c .lent)
+
+read-accepts : (s : Receiver) (c : reading.Call) → receiver.inRange s ≡ true → ReadFits c
+    → Accepts (λ (t : Receiver). receiver.inRange t ≡ true) (reading.callOf s c)
+unfolding after
+read-accepts s c h f =
+    record { yes = ap isAccepted (block-0 s (c .samples) (c .lent) h (f .few) (f .samples) (f .room)); kept = one-reading s (c ∷ []) .range h }
+
+blocks-fit : (entry : reading.Entry) (blocks : List (List ℤ)) → All (λ block. length block ≤ 16384) blocks → areSamples (concat blocks) ≡ true
+    → All ReadFits (blockCalls entry blocks)
+blocks-fit entry [] none h = none
+blocks-fit entry (block ∷ blocks) (more l ls) h =
+    let both = sym (samples-append block (concat blocks)) ∙ h in
+    let places : ℕ = receiver.placesFor (length block) in
+    let room : places ≤ length (replicate {A = ℕ} places 0) = omega (arith, length-replicate {A = ℕ} places 0) in
+    more (record { few = l; samples = and-elim-left (areSamples block) (areSamples (concat blocks)) both; room = room })
+    (blocks-fit entry blocks ls (and-elim-right (areSamples block) (areSamples (concat blocks)) both))
+
+blocks-samples : (entry : reading.Entry) (blocks : List (List ℤ)) → each (λ (c : reading.Call). c .samples) (blockCalls entry blocks) ≡ concat blocks
+blocks-samples entry [] = refl
+blocks-samples entry (block ∷ blocks) = ap (λ (l : List ℤ). block ++ l) (blocks-samples entry blocks)
+
+-- a recording is in the range of samples: 6,000 and 100 are below 8,192
+recorded-samples : (s : Transmitter) (calls : List sending.Call) (recorded : List ℤ) → Recording disturbance (sending.samplesWritten s calls) recorded
+    → areSamples recorded ≡ true
+recorded-samples s calls recorded r =
+    bounded-samples recorded (omega arith)
+    (near-bounded (recording-near r)
+    (bounded-append (silence (r .before)) (written ++ silence (r .after)) (bounded-zeros 6000 (r .before))
+    (bounded-append written (silence (r .after)) (subst (Bounded 6000) (sym (samples-written s calls)) (send-bound (s .phase) (sending.stepsSent s calls)))
+    (bounded-zeros 6000 (r .after)))))
+  where
+    written : List ℤ
+    written = sending.samplesWritten s calls
+
+-- ---- both
+
+pub not-vacuous : NotVacuous
+not-vacuous entry band known texts ts blocks bs r =
+    record {
+      transmission =
+          record {
+            band = band;
+            known = known;
+            sent = sendingCalls texts;
+            shape = subst IsSending (sym all-sent) (leader (silence 96) (ending-shape texts));
+            bytes = subst AreBytes (sym message) (texts-bytes texts ts);
+            recorded = concat blocks;
+            recording = r;
+            blocks = blockCalls entry blocks;
+            read =
+                joined-each reading.callOf (λ (c : reading.Call). c .samples) (receiver.fresh band) (blockCalls entry blocks)
+                ∙ ap (each (λ (c : reading.Call). c .samples)) all-read ∙ blocks-samples entry blocks;
+          };
+      in-band = refl;
+      sent = refl;
+      all-sent = all-sent;
+      message = message;
+      recorded = refl;
+      read = refl;
+      all-read = all-read;
+    }
+  where
+    all-sent : acceptedCalls sending.callOf (transmitter.fresh band) (sendingCalls texts) ≡ sendingCalls texts
+    all-sent =
+        all-accepted sending.callOf (λ (s : Transmitter). transmitter.inRange s ≡ true) SendFits send-accepts (sendingCalls texts) (more idle-fits (ending-fits texts ts))
+        (transmitter.fresh band) (transmitter-rules.fresh-kept band known)
+
+    message : joined sending.callOf (λ o c. bytesOf c) (transmitter.fresh band) (sendingCalls texts) ≡ concat texts
+    message = joined-each sending.callOf bytesOf (transmitter.fresh band) (sendingCalls texts) ∙ ap (each bytesOf) all-sent ∙ ending-bytes texts
+
+    all-read : acceptedCalls reading.callOf (receiver.fresh band) (blockCalls entry blocks) ≡ blockCalls entry blocks
+    all-read =
+        all-accepted reading.callOf (λ (s : Receiver). receiver.inRange s ≡ true) ReadFits read-accepts (blockCalls entry blocks)
+        (blocks-fit entry blocks bs (recorded-samples (transmitter.fresh band) (sendingCalls texts) (concat blocks) r))
+        (receiver.fresh band) (receiver-ranges.fresh-kept band known)
