@@ -4,12 +4,15 @@
 //! The tests in `tests/` compare it with the static library.
 //! `in_place` and `shifted_window` are the receiver again, written for speed;
 //! the benchmark measures the library beside them.
+//! `picture` draws `docs/windows.svg` from the same sine, transmitter and sums.
 
 #![deny(unsafe_code)]
 
+pub mod disturbance;
 pub mod in_place;
 pub mod library;
 mod natural;
+pub mod picture;
 pub mod random;
 pub mod receiver;
 pub mod shifted_window;

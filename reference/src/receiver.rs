@@ -134,13 +134,13 @@ fn read(sines: &Sines, mut state: State, samples: &[i16], events: &mut [u16]) ->
 
 /// C(j t) and S(j t) of a tone with step t, for j from 0 to 31. They are
 /// looked up once for each call, only because it is quicker.
-struct Tone {
-    cosines: [i64; WINDOW],
-    sines: [i64; WINDOW],
+pub(crate) struct Tone {
+    pub(crate) cosines: [i64; WINDOW],
+    pub(crate) sines: [i64; WINDOW],
 }
 
 impl Tone {
-    fn new(sines: &Sines, step: u16) -> Tone {
+    pub(crate) fn new(sines: &Sines, step: u16) -> Tone {
         let step = usize::from(step);
         Tone {
             cosines: array::from_fn(|j| i64::from(sines.c(j * step))),
@@ -148,10 +148,14 @@ impl Tone {
         }
     }
 
+    /// I and Q.
+    pub(crate) fn sums(&self, window: &[i16; WINDOW]) -> [i64; 2] {
+        [&self.cosines, &self.sines].map(|weights| weighed(window, weights))
+    }
+
     /// At most 2 (32 * 8191 * 6000)^2, which is below 2^63.
     fn energy(&self, window: &[i16; WINDOW]) -> i64 {
-        let i = weighed(window, &self.cosines);
-        let q = weighed(window, &self.sines);
+        let [i, q] = self.sums(window);
         i * i + q * q
     }
 }

@@ -4,7 +4,7 @@ use crate::sine::Sines;
 
 const CYCLE: u16 = 1_920;
 const SAMPLES_PER_BIT: usize = 32;
-const IDLE_SAMPLES: usize = 96;
+pub(crate) const IDLE_SAMPLES: usize = 96;
 const CHARACTER_SAMPLES: usize = 320;
 const MOST_CHARACTERS: usize = 100;
 
@@ -86,7 +86,7 @@ fn refused(number: u8, state: State) -> Answer {
 }
 
 /// Start bit 0, the data bits from the least significant, stop bit 1.
-fn framed(byte: u8) -> [u8; 10] {
+pub(crate) fn framed(byte: u8) -> [u8; 10] {
     let mut bits = [0; 10];
     for i in 0..8 {
         bits[1 + i] = (byte >> i) & 1;

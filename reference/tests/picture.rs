@@ -1,0 +1,103 @@
+//! The picture in `docs/`, and what it shows: which tone wins, and when a
+//! character is reported.
+
+mod common;
+
+use common::recording::{around_0, disturbed, every_character, sending, DISTURBANCE};
+use common::{sines, BANDS};
+use reference::disturbance::{certain, Band, Energy};
+use reference::picture;
+use reference::random::Random;
+use reference::receiver::{self, GOOD_ENERGY};
+use reference::transmitter::{characters, State};
+use std::fs;
+
+#[test]
+fn the_file_is_what_the_program_draws() {
+    let path = concat!(env!("CARGO_MANIFEST_DIR"), "/../docs/windows.svg");
+    let file = fs::read_to_string(path).expect("the picture is there");
+    let drawn = picture::windows(sines());
+    if file != drawn {
+        let pairs = file.lines().zip(drawn.lines());
+        let same = pairs.take_while(|(old, new)| old == new).count();
+        panic!(
+            "line {} differs: draw it with examples/windows.rs",
+            same + 1
+        );
+    }
+}
+
+fn wins(energies: &[Energy; 2], bit: u8) -> bool {
+    let [own, other] = [bit, 1 - bit].map(|bit| energies[usize::from(bit)]);
+    own.least > other.most
+}
+
+/// Start, data and stop bits of 06 hexadecimal: each pair of bits is there.
+const BITS: [u8; 10] = [0, 0, 1, 1, 0, 0, 0, 0, 0, 1];
+
+/// Tries every window of the character, begun at every phase, which brings each
+/// pair of bits to every phase. Gives how often neither tone was certain to win
+/// where that is allowed, by the number of samples of the later bit.
+fn undecided(band: u8) -> [usize; 32] {
+    let tones = Band::new(sines(), band);
+    let mut undecided = [0; 32];
+    let mut samples = [0; 320];
+    for phase in 0..1_920 {
+        characters(sines(), State { band, phase }, &[0x06], &mut samples);
+        for (start, window) in samples.windows(32).enumerate() {
+            let energies = tones.energies(window.try_into().expect("a whole window"));
+            let (bit, count) = (start / 32, start % 32);
+            let later = BITS.get(bit + 1).copied().unwrap_or(1);
+            let what = || format!("band {band}, phase {phase}, window {start}");
+            let winner = [0, 1].into_iter().find(|&bit| wins(&energies, bit));
+            match certain(BITS[bit], later, count as i64) {
+                None => undecided[count] += usize::from(winner.is_none()),
+                expected => assert_eq!(winner, expected, "{}", what()),
+            }
+            let least = energies.map(|energy| energy.least);
+            assert!(least[0].max(least[1]) >= GOOD_ENERGY, "{}", what());
+        }
+    }
+    undecided
+}
+
+/// And at each place that is drawn as undecided there is a phase with no winner.
+#[test]
+fn the_certain_tone_wins_at_every_phase() {
+    for band in BANDS {
+        let undecided = undecided(band);
+        let found = (0..32).filter(|&count| undecided[count] > 0);
+        let drawn = (0..32).filter(|&count| certain(0, 1, count as i64).is_none());
+        assert!(found.eq(drawn), "band {band}: {undecided:?}");
+    }
+}
+
+/// The samples with which the events come, the recording read one by one.
+fn event_places(band: u8, recording: &[i16]) -> Vec<usize> {
+    let (_, mut state) = receiver::open(band);
+    let mut places = Vec::new();
+    for (place, sample) in recording.iter().enumerate() {
+        let answer = receiver::block(sines(), state, &[*sample], &mut [0]);
+        assert_eq!(answer.number, 0);
+        places.extend((answer.count > 0).then_some(place));
+        state = answer.state;
+    }
+    places
+}
+
+#[test]
+fn characters_are_reported_where_the_last_slot_is_drawn() {
+    let mut random = Random::new(77);
+    for band in BANDS {
+        let message = every_character(&mut random);
+        let recording = disturbed(&sending(band, &message), |_| {
+            around_0(&mut random, DISTURBANCE)
+        });
+        let places = event_places(band, &recording);
+        assert_eq!(places.len(), message.len());
+        for (number, place) in places.into_iter().enumerate() {
+            let behind = place - 96 - 320 * number;
+            assert!((318..=322).contains(&behind), "band {band}: {behind}");
+        }
+    }
+}
