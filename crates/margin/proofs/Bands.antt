@@ -1,5 +1,6 @@
--- The numbers of the promise for every band, with each sample altered by at most 100: the test is computed for each pair of tones.
--- The two pairs of V.21, which are no bands, pass it too.
+-- `Margins` for every band, with each sample altered by at most 100, by the test computed for each pair of tones. The two pairs of
+-- V.21, which are no bands, pass it too. A pair's stride is 32 times the largest number that divides both steps and 30, so that few
+-- phases are tested; its count is 960 over the stride.
 -- Assumes nothing.
 use mathlib.Core.Path.{_≡_, refl}
 use mathlib.Core.Bool.{Bool, true, false}
@@ -46,26 +47,26 @@ margins band = go (isBand band) refl
     go true e = rw (tones-band band e) (row (band - 1))
     go false e = rw (tones-else band e) of-originate
 
--- ---- V.21
+-- ---- the pairs of V.21
 
 -- 1,180 and 980 Hz
-abbrev low : Tones
+abbrev pub low : Tones
 low = record { space = 236; mark = 196 }
 
 -- 1,850 and 1,650 Hz
-abbrev high : Tones
+abbrev pub high : Tones
 high = record { space = 370; mark = 330 }
 
 low-passes : test disturbance low 64 15 ≡ true
 unfolding test S half nearest
 low-passes = refl
 
+pub v21-low : Margins disturbance low
+v21-low = margins-of disturbance low 64 15 refl low-passes refl refl
+
 high-passes : test disturbance high 320 3 ≡ true
 unfolding test S half nearest
 high-passes = refl
 
-pub v21-low : Margins disturbance (record { space = 236; mark = 196 })
-v21-low = margins-of disturbance low 64 15 refl low-passes refl refl
-
-pub v21-high : Margins disturbance (record { space = 370; mark = 330 })
+pub v21-high : Margins disturbance high
 v21-high = margins-of disturbance high 320 3 refl high-passes refl refl

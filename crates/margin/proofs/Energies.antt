@@ -24,16 +24,16 @@ pub record Within (b : Bounds) (n : ℕ) : Type 0 where
   pub low : b .least ≤ n
   pub high : n ≤ b .most
 
--- the bounds of I * I + Q * Q, where I is at most m off the size i, and Q at most n off the size q
-unfoldable pub boundsOf : (i q m n : ℕ) → Bounds
-boundsOf i q m n =
-    record { least = (i - m) * (i - m) + (q - n) * (q - n); most = (i + m) * (i + m) + (q + n) * (q + n) }
+-- the bounds of x * x + y * y, where x is at most m from i, and y at most n from q
+unfoldable pub squares : (i q m n : ℕ) → Bounds
+squares i q m n = record { least = (i - m) * (i - m) + (q - n) * (q - n); most = (i + m) * (i + m) + (q + n) * (q + n) }
 
-within : (i q m n i′ q′ : ℕ) → (i ≤ i′ + m) × (i′ ≤ i + m) → (q ≤ q′ + n) × (q′ ≤ q + n) → Within (boundsOf i q m n) (i′ * i′ + q′ * q′)
-unfolding boundsOf
-within i q m n i′ q′ h l =
-    let a : i - m ≤ i′ = omega arith in
-    let b : q - n ≤ q′ = omega arith in
+within-squares : (i q m n x y : ℕ) → (i ≤ x + m) × (x ≤ i + m) → (q ≤ y + n) × (y ≤ q + n)
+    → Within (squares i q m n) (x * x + y * y)
+unfolding squares
+within-squares i q m n x y h l =
+    let a : i - m ≤ x = omega arith in
+    let b : q - n ≤ y = omega arith in
     record {
       low = add-le-add (mul-le-mul a a) (mul-le-mul b b);
       high = add-le-add (mul-le-mul (h .1) (h .1)) (mul-le-mul (l .1) (l .1));
@@ -41,33 +41,36 @@ within i q m n i′ q′ h l =
 
 -- ---- the energy of a tone
 
--- the weights of a tone, and how far a disturbance moves the sums with them, which are I and Q
-pub record Weights : Type 0 where
+-- the weights of a tone, and how far a disturbance moves the sums with them
+pub record ToneWeights : Type 0 where
   pub cosines : List ℤ
   pub sines : List ℤ
-  pub offI : ℕ
-  pub offQ : ℕ
+  pub inPhaseOff : ℕ
+  pub quadratureOff : ℕ
 
-unfoldable pub weightsOf : (noise step : ℕ) → Weights
+unfoldable pub toneWeights : (noise step : ℕ) → ToneWeights
 unfolding wave size
-weightsOf noise step =
+toneWeights noise step =
     record {
       cosines = wave 32 step 480;
       sines = wave 32 step 0;
-      offI = noise * size (wave 32 step 480);
-      offQ = noise * size (wave 32 step 0);
+      inPhaseOff = noise * size (wave 32 step 480);
+      quadratureOff = noise * size (wave 32 step 0);
     }
 
-unfoldable pub bounds : Weights → List ℤ → Bounds
-unfolding dot boundsOf
-bounds u window = boundsOf (natAbs (dot window (u .cosines))) (natAbs (dot window (u .sines))) (u .offI) (u .offQ)
+-- the bounds of the energy in every window near `sent`
+unfoldable pub bounds : ToneWeights → (sent : List ℤ) → Bounds
+unfolding dot squares
+bounds w sent = squares (natAbs (dot sent (w .cosines))) (natAbs (dot sent (w .sines))) (w .inPhaseOff) (w .quadratureOff)
 
-pub energy-bounds : (noise step : ℕ) {sent heard : List ℤ} → Near noise sent heard → Within (bounds (weightsOf noise step) sent) (energyℕ heard step)
-unfolding bounds weightsOf energyℕ
-energy-bounds noise step {sent} {heard} near =
+pub within-bounds : (noise step : ℕ) {sent window : List ℤ} → Near noise sent window
+    → Within (bounds (toneWeights noise step) sent) (energyℕ window step)
+unfolding bounds toneWeights energyℕ
+within-bounds noise step {sent} {window} near =
     let cosines : List ℤ = wave 32 step 480 in
     let sines : List ℤ = wave 32 step 0 in
-    rw (in-phase-dot heard step, quadrature-dot heard step)
-    (within (natAbs (dot sent cosines)) (natAbs (dot sent sines)) (noise * size cosines) (noise * size sines) (natAbs (dot heard cosines)) (natAbs (dot heard sines))
-    (natAbs-near (dot sent cosines) (dot heard cosines) (near-dot near cosines))
-    (natAbs-near (dot sent sines) (dot heard sines) (near-dot near sines)))
+    rw (in-phase-dot window step, quadrature-dot window step)
+    (within-squares (natAbs (dot sent cosines)) (natAbs (dot sent sines)) (noise * size cosines) (noise * size sines)
+    (natAbs (dot window cosines)) (natAbs (dot window sines))
+    (natAbs-near (dot sent cosines) (dot window cosines) (near-dot near cosines))
+    (natAbs-near (dot sent sines) (dot window sines) (near-dot near sines)))

@@ -1,26 +1,26 @@
--- What the test says of a disturbed window: the level and the bit that a receiver decides. From the bounds of the energies.
+-- What a receiver decides in a disturbed window that passed the test, and which windows pass with a phase. From the bounds of the
+-- energies.
 -- Assumes nothing.
-use mathlib.Core.Path.{_≡_, refl, ap, _∙_}
-use mathlib.Core.Bool.{Bool, true, false, cond, _&&_, _||_, Bool·beq}
-use mathlib.Core.List.{List, _++_}
-use mathlib.Mathlib.Data.Bool.Basic.{and-elim-left, and-elim-right, or-inl, or-inr}
-use Prim.Native.Nat.{ℕ, zero, suc, _+_, _*_, _%_, _<_, _≤_, max}
+use mathlib.Core.Path.{_≡_}
+use mathlib.Core.Bool.{Bool, true, false, Bool·beq}
+use mathlib.Core.List.{List}
+use mathlib.Mathlib.Data.Bool.Basic.{and-elim-left, and-elim-right}
+use Prim.Native.Nat.{ℕ, zero, suc, _<_, _≤_, max}
 use native.Mathlib.Omega.{arith}
 use borrow.Author.Tests.{ltb-true, leb-true, lt-ltb, le-ltb, le-leb, lt-leb}
 use lib.Dec.{leb, ltb, lit<}
-use lib.IntN.{ℤ, pos}
-use lib.ListN.{take, drop, replicate}
+use lib.IntN.{ℤ}
+use lib.ListN.{length, getD}
 use Rattle.integers.specs.Near.{Near}
-use Rattle.integers.proofs.Tests.{passesBelow, below-at}
+use Rattle.integers.proofs.Tests.{passes-at, passesBelow, below-at}
 use Rattle.sine.specs.Wave.{wave}
 use Rattle.tones.specs.declared.Tones.{Tones}
 use Rattle.tones.specs.Bands.{stepOf}
-use Rattle.receiver.specs.declared.Decision.{Decision}
 use Rattle.receiver.specs.Energy.{energyℕ, level, decisionOf}
 use Rattle.receiver.proofs.Energies.{decision-ℕ}
 use Rattle.margin.specs.Windows.{across, fading, isSpace}
-use Rattle.margin.proofs.Energies.{Bounds, Within, Weights, weightsOf, bounds, energy-bounds}
-use Rattle.margin.proofs.Test.{carrierSure, silenceSure, winsSure, readSure, sure, acrossSure, fadingSure, pairSure, phaseSure, silentSure}
+use Rattle.margin.proofs.Energies.{Bounds, Within, bounds, within-bounds}
+use Rattle.margin.proofs.Test.{carrierSure, silenceSure, winsSure, readTests, readSure, Weights, weightsOf, windowSure, acrossSure, fadingSure, pairSure, bitSure, phaseSure}
 
 -- ---- two energies within their bounds
 
@@ -33,113 +33,86 @@ module _ {s m : Bounds} {space mark : ℕ} (h : Within s space) (l : Within m ma
   unfolding silenceSure
   silence-level e = lt-leb level (max space mark) (omega (arith, ltb-true (max (s .most) (m .most)) level e))
 
-  winner : (bit : Bool) → winsSure bit s m ≡ true → ltb mark space ≡ bit
+  winner : (above : Bool) → winsSure above s m ≡ true → ltb mark space ≡ above
   unfolding winsSure
   winner true e = lt-ltb mark space (omega (arith, ltb-true (m .most) (s .least) e))
   winner false e = le-ltb mark space (omega (arith, leb-true (s .most) (m .least) e))
 
-  -- k samples of a later bit are in the window
-  module _ (earlier later : Bool) (k : ℕ) (e : readSure earlier later k s m ≡ true) where
-    abbrev one : Bool
-    one = carrierSure s m
-
-    abbrev two : Bool
-    two = cond (leb k 14 || Bool·beq earlier later) (winsSure earlier s m) true
-
-    abbrev three : Bool
-    three = cond (leb 19 k) (winsSure later s m) true
-
-    read-level : leb level (max space mark) ≡ true
-    unfolding readSure
-    read-level = carrier-level (and-elim-left one two (and-elim-left (one && two) three e))
-
-    read-earlier : (leb k 14 || Bool·beq earlier later) ≡ true → ltb mark space ≡ earlier
-    unfolding readSure
-    read-earlier c = winner earlier (rw c at (and-elim-right one two (and-elim-left (one && two) three e)))
-
-    read-later : leb 19 k ≡ true → ltb mark space ≡ later
-    unfolding readSure
-    read-later c = winner later (rw c at (and-elim-right (one && two) three e))
-
-same-bit : (bit : Bool) → Bool·beq bit bit ≡ true
-same-bit true = refl
-same-bit false = refl
-
--- ---- the decisions of a receiver
+-- ---- a window near the samples sent
 
 module _ (noise : ℕ) (t : Tones) where
-  abbrev u : Weights
-  u = weightsOf noise (t .space)
-
-  abbrev v : Weights
-  v = weightsOf noise (t .mark)
+  abbrev w : Weights
+  w = weightsOf noise t
 
   module _ {sent window : List ℤ} (near : Near noise sent window) where
-    in-space : Within (bounds u sent) (energyℕ window (t .space))
-    in-space = energy-bounds noise (t .space) near
+    in-space : Within (bounds (w .space) sent) (energyℕ window (t .space))
+    unfolding weightsOf
+    in-space = within-bounds noise (t .space) near
 
-    in-mark : Within (bounds v sent) (energyℕ window (t .mark))
-    in-mark = energy-bounds noise (t .mark) near
+    in-mark : Within (bounds (w .mark) sent) (energyℕ window (t .mark))
+    unfolding weightsOf
+    in-mark = within-bounds noise (t .mark) near
 
-  pub silent : silentSure u v ≡ true → (w : List ℤ) → Near noise (replicate 32 (pos 0)) w → decisionOf t w .good ≡ false
-  unfolding silentSure sure
-  silent e w near = rw (decision-ℕ t w) (silence-level (in-space near) (in-mark near) e)
+    pub silence-decided : windowSure w silenceSure sent ≡ true → decisionOf t window .good ≡ false
+    unfolding windowSure
+    silence-decided e = rw (decision-ℕ t window) (silence-level in-space in-mark e)
 
-  -- a phase whose windows passed
-  module _ (p : ℕ) (passed : phaseSure u v t p ≡ true) where
-    abbrev pairs : Bool
-    pairs = passesBelow (λ a. passesBelow (pairSure u v t p a) 2) 2
+    pub bit-decided : (above : Bool) → windowSure w (winsSure above) sent ≡ true → decisionOf t window .space ≡ above
+    unfolding windowSure
+    bit-decided above e = rw (decision-ℕ t window) (winner in-space in-mark above e)
 
-    abbrev fades : Bool
-    fades = fadingSure u v (wave 32 (t .mark) p)
+    -- k samples of a later bit are in the window
+    module _ (earlier later : Bool) (k : ℕ) (e : windowSure w (readSure earlier later k) sent ≡ true) where
+      abbrev tests : List Bool
+      tests = readTests earlier later k (bounds (w .space) sent) (bounds (w .mark) sent)
 
-    pairs-passed : (a b : ℕ) → a < 2 → b < 2 → pairSure u v t p a b ≡ true
-    unfolding phaseSure
-    pairs-passed a b h l =
-        below-at (pairSure u v t p a) 2
-        (below-at (λ i. passesBelow (pairSure u v t p i) 2) 2 (and-elim-left pairs fades passed) a h) b l
+      test-passed : (i : ℕ) → i < length tests → getD tests i true ≡ true
+      unfolding windowSure readSure
+      test-passed = passes-at (λ i b. b) true tests e
 
-    -- every number but 0 is the bit 1
-    pair-passed : (a b : ℕ) → pairSure u v t p a b ≡ true
-    unfolding pairSure
-    pair-passed zero zero = pairs-passed 0 0 (lit< tt) (lit< tt)
-    pair-passed zero (suc b) = pairs-passed 0 1 (lit< tt) (lit< tt)
-    pair-passed (suc a) zero = pairs-passed 1 0 (lit< tt) (lit< tt)
-    pair-passed (suc a) (suc b) = pairs-passed 1 1 (lit< tt) (lit< tt)
+      pub carrier-decided : decisionOf t window .good ≡ true
+      unfolding readTests
+      carrier-decided = rw (decision-ℕ t window) (carrier-level in-space in-mark (test-passed 0 (lit< tt)))
 
-    across-passed : (a b k : ℕ) → k < 32 → sure u v (readSure (isSpace a) (isSpace b) k) (across t p a b k) ≡ true
-    unfolding pairSure acrossSure across
-    across-passed a b k h = below-at (λ i. sure u v (readSure (isSpace a) (isSpace b) i) (across t p a b i)) 32 (pair-passed a b) k h
+      pub earlier-decided : k ≤ 14 → decisionOf t window .space ≡ earlier
+      unfolding readTests windowSure
+      earlier-decided h = bit-decided earlier (rw (le-leb k 14 h) at (test-passed 1 (lit< tt)))
 
-    fading-passed : (k : ℕ) → k < 16 → sure u v (winsSure false) (fading t p k) ≡ true
-    unfolding phaseSure fadingSure fading
-    fading-passed k h = below-at (λ i. sure u v (winsSure false) (fading t p i)) 16 (and-elim-right pairs fades passed) k h
+      pub later-decided : 19 ≤ k → decisionOf t window .space ≡ later
+      unfolding readTests windowSure
+      later-decided h = bit-decided later (rw (le-leb 19 k h) at (test-passed 2 (lit< tt)))
 
-    pub carrier : (a b k : ℕ) → k < 32 → (w : List ℤ) → Near noise (across t p a b k) w → decisionOf t w .good ≡ true
-    unfolding sure
-    carrier a b k h w near =
-        rw (decision-ℕ t w) (read-level (in-space near) (in-mark near) (isSpace a) (isSpace b) k (across-passed a b k h))
+      pub same-decided : Bool·beq earlier later ≡ true → decisionOf t window .space ≡ later
+      unfolding readTests windowSure
+      same-decided c = bit-decided later (rw c at (test-passed 3 (lit< tt)))
 
-    pub earlier : (a b k : ℕ) → k ≤ 14 → (w : List ℤ) → Near noise (across t p a b k) w → decisionOf t w .space ≡ isSpace a
-    unfolding sure
-    earlier a b k h w near =
-        rw (decision-ℕ t w)
-        (read-earlier (in-space near) (in-mark near) (isSpace a) (isSpace b) k (across-passed a b k (omega arith))
-        (or-inl (leb k 14) (Bool·beq (isSpace a) (isSpace b)) (le-leb k 14 h)))
+-- ---- the windows at a phase that passed
 
-    pub later : (a b k : ℕ) → 19 ≤ k → k < 32 → (w : List ℤ) → Near noise (across t p a b k) w → decisionOf t w .space ≡ isSpace b
-    unfolding sure
-    later a b k l h w near =
-        rw (decision-ℕ t w)
-        (read-later (in-space near) (in-mark near) (isSpace a) (isSpace b) k (across-passed a b k h) (le-leb 19 k l))
+module _ (w : Weights) (t : Tones) (p : ℕ) (passed : phaseSure w t p ≡ true) where
+  abbrev bits : Bool
+  bits = passesBelow (λ a. bitSure w t p a (wave 32 (stepOf t a) p)) 2
 
-    pub steady : (a k : ℕ) → k < 32 → (w : List ℤ) → Near noise (across t p a a k) w → decisionOf t w .space ≡ isSpace a
-    unfolding sure
-    steady a k h w near =
-        rw (decision-ℕ t w)
-        (read-earlier (in-space near) (in-mark near) (isSpace a) (isSpace a) k (across-passed a a k h)
-        (or-inr (leb k 14) (Bool·beq (isSpace a) (isSpace a)) (same-bit (isSpace a))))
+  abbrev fades : Bool
+  fades = fadingSure w (wave 32 (t .mark) p)
 
-    pub dying : (k : ℕ) → k ≤ 15 → (w : List ℤ) → Near noise (fading t p k) w → decisionOf t w .space ≡ false
-    unfolding sure
-    dying k h w near = rw (decision-ℕ t w) (winner (in-space near) (in-mark near) false (fading-passed k (omega arith)))
+  bits-passed : (a b : ℕ) → a < 2 → b < 2 → pairSure w t p a (wave 32 (stepOf t a) p) b ≡ true
+  unfolding phaseSure bitSure
+  bits-passed a b h l =
+      below-at (pairSure w t p a (wave 32 (stepOf t a) p)) 2
+      (below-at (λ i. bitSure w t p i (wave 32 (stepOf t i) p)) 2 (and-elim-left bits fades passed) a h) b l
+
+  -- every number but 0 is the bit 1
+  pair-passed : (a b : ℕ) → pairSure w t p a (wave 32 (stepOf t a) p) b ≡ true
+  unfolding pairSure
+  pair-passed zero zero = bits-passed 0 0 (lit< tt) (lit< tt)
+  pair-passed zero (suc b) = bits-passed 0 1 (lit< tt) (lit< tt)
+  pair-passed (suc a) zero = bits-passed 1 0 (lit< tt) (lit< tt)
+  pair-passed (suc a) (suc b) = bits-passed 1 1 (lit< tt) (lit< tt)
+
+  pub across-passed : (a b k : ℕ) → k < 32 → windowSure w (readSure (isSpace a) (isSpace b) k) (across t p a b k) ≡ true
+  unfolding pairSure acrossSure across
+  across-passed a b = below-at (λ k. windowSure w (readSure (isSpace a) (isSpace b) k) (across t p a b k)) 32 (pair-passed a b)
+
+  pub fading-passed : (k : ℕ) → k < 16 → windowSure w (winsSure false) (fading t p k) ≡ true
+  unfolding phaseSure fadingSure fading
+  fading-passed = below-at (λ k. windowSure w (winsSure false) (fading t p k)) 16 (and-elim-right bits fades passed)

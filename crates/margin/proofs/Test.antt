@@ -1,85 +1,96 @@
--- The test that antt computes: in the windows of two successive bits, of a mark bit that dies away and of silence, the bounds of the
--- two energies leave no doubt. Whatever a loop shares, as the waves and the weights, is an argument, so that it is computed once.
+-- The test that antt computes: in the windows of two successive bits, of a mark bit with silence behind it, and of silence, the
+-- bounds of the two energies leave no doubt. What a loop shares, as waves and weights, is an argument: so it is computed once.
 -- Assumes nothing.
-use mathlib.Core.Bool.{Bool, true, false, cond, _&&_, _||_, Bool·beq}
-use mathlib.Core.List.{List, _++_}
+use mathlib.Core.Bool.{Bool, true, false, cond, _&&_, Bool·beq}
+use mathlib.Core.List.{List, [], _∷_, _++_}
 use Prim.Native.Nat.{ℕ, _+_, _*_, _%_, max}
 use lib.Dec.{leb, ltb}
 use lib.IntN.{ℤ, pos}
 use lib.ListN.{take, drop, replicate}
-use Rattle.integers.proofs.Tests.{passesBelow}
+use Rattle.integers.proofs.Tests.{passes, passesBelow}
 use Rattle.sine.specs.Wave.{wave}
 use Rattle.tones.specs.declared.Tones.{Tones}
 use Rattle.tones.specs.Bands.{stepOf}
 use Rattle.receiver.specs.Energy.{level}
 use Rattle.margin.specs.Windows.{isSpace}
-use Rattle.margin.proofs.Energies.{Bounds, Weights, weightsOf, bounds}
+use Rattle.margin.proofs.Energies.{Bounds, ToneWeights, toneWeights, bounds}
 
 -- ---- one window, by the bounds of the energies of space and mark
 
 -- the level is good
-unfoldable pub carrierSure : Bounds → Bounds → Bool
+unfoldable pub carrierSure : (space mark : Bounds) → Bool
 carrierSure space mark = leb level (max (space .least) (mark .least))
 
 -- the level is not good
-unfoldable pub silenceSure : Bounds → Bounds → Bool
+unfoldable pub silenceSure : (space mark : Bounds) → Bool
 silenceSure space mark = ltb (max (space .most) (mark .most)) level
 
--- space is above mark, or it is not
-unfoldable pub winsSure : Bool → Bounds → Bounds → Bool
+-- space is above mark, or it is not, as `above` says
+unfoldable pub winsSure : (above : Bool) (space mark : Bounds) → Bool
 winsSure true space mark = ltb (mark .most) (space .least)
 winsSure false space mark = leb (space .most) (mark .least)
 
--- k samples of a later bit are in the window: the level is good, the earlier bit is read up to 14 of them, or if the bits are the
--- same, and the later from 19 on
-unfoldable pub readSure : (earlier later : Bool) (k : ℕ) → Bounds → Bounds → Bool
+-- k samples of a later bit are in the window: the level is good, the earlier bit is read up to 14 of them, the later from 19 on, and
+-- a bit that follows itself throughout; `earlier` and `later` say whether these bits are space
+unfoldable pub readTests : (earlier later : Bool) (k : ℕ) (space mark : Bounds) → List Bool
 unfolding carrierSure winsSure
-readSure earlier later k space mark =
+readTests earlier later k space mark =
     carrierSure space mark
-    && cond (leb k 14 || Bool·beq earlier later) (winsSure earlier space mark) true
-    && cond (leb 19 k) (winsSure later space mark) true
+    ∷ cond (leb k 14) (winsSure earlier space mark) true
+    ∷ cond (leb 19 k) (winsSure later space mark) true
+    ∷ cond (Bool·beq earlier later) (winsSure later space mark) true
+    ∷ []
 
--- ---- all windows at a phase, by the weights of space and mark
+unfoldable pub readSure : (earlier later : Bool) (k : ℕ) (space mark : Bounds) → Bool
+unfolding readTests
+readSure earlier later k space mark = passes (λ i b. b) 0 (readTests earlier later k space mark)
 
-module _ (u v : Weights) where
-  unfoldable pub sure : (Bounds → Bounds → Bool) → List ℤ → Bool
+-- ---- all windows at a phase
+
+pub record Weights : Type 0 where
+  pub space : ToneWeights
+  pub mark : ToneWeights
+
+unfoldable pub weightsOf : (noise : ℕ) → Tones → Weights
+unfolding toneWeights
+weightsOf noise t = record { space = toneWeights noise (t .space); mark = toneWeights noise (t .mark) }
+
+module _ (w : Weights) where
+  unfoldable pub windowSure : ((space mark : Bounds) → Bool) → (sent : List ℤ) → Bool
   unfolding bounds
-  sure test window = test (bounds u window) (bounds v window)
+  windowSure sure sent = sure (bounds (w .space) sent) (bounds (w .mark) sent)
 
   -- xs are the samples of the earlier bit, ys those of the later
   unfoldable pub acrossSure : (earlier later : Bool) (xs ys : List ℤ) → Bool
-  unfolding sure readSure
-  acrossSure earlier later xs ys = passesBelow (λ k. sure (readSure earlier later k) (drop k xs ++ take k ys)) 32
+  unfolding windowSure readSure
+  acrossSure earlier later xs ys = passesBelow (λ k. windowSure (readSure earlier later k) (drop k xs ++ take k ys)) 32
 
-  unfoldable pub fadingSure : List ℤ → Bool
-  unfolding sure winsSure
-  fadingSure xs = passesBelow (λ k. sure (winsSure false) (drop k xs ++ replicate k (pos 0))) 16
+  -- xs are the samples of a mark bit
+  unfoldable pub fadingSure : (xs : List ℤ) → Bool
+  unfolding windowSure winsSure
+  fadingSure xs = passesBelow (λ k. windowSure (winsSure false) (drop k xs ++ replicate k (pos 0))) 16
 
   module _ (t : Tones) (p : ℕ) where
-    -- the bit a, which begins at the phase p, and the bit b behind it
-    unfoldable pub pairSure : (a b : ℕ) → Bool
+    -- the bit a, whose samples are xs, begins at the phase p, and the bit b follows
+    unfoldable pub pairSure : (a : ℕ) (xs : List ℤ) (b : ℕ) → Bool
     unfolding acrossSure wave
-    pairSure a b =
-        acrossSure (isSpace a) (isSpace b) (wave 32 (stepOf t a) p) (wave 32 (stepOf t b) ((p + 32 * stepOf t a) % 1920))
+    pairSure a xs b = acrossSure (isSpace a) (isSpace b) xs (wave 32 (stepOf t b) ((p + 32 * stepOf t a) % 1920))
+
+    -- both bits behind it
+    unfoldable pub bitSure : (a : ℕ) (xs : List ℤ) → Bool
+    unfolding pairSure
+    bitSure a xs = passesBelow (pairSure a xs) 2
 
     unfoldable pub phaseSure : Bool
-    unfolding pairSure fadingSure wave
-    phaseSure = passesBelow (λ a. passesBelow (pairSure a) 2) 2 && fadingSure (wave 32 (t .mark) p)
+    unfolding bitSure fadingSure wave
+    phaseSure = passesBelow (λ a. bitSure a (wave 32 (stepOf t a) p)) 2 && fadingSure (wave 32 (t .mark) p)
 
--- ---- the test: silence, and `count` phases that are `stride` apart
+  -- ---- silence, and `count` phases that are `stride` apart
 
-unfoldable pub silentSure : Weights → Weights → Bool
-unfolding sure silenceSure
-silentSure u v = sure u v silenceSure (replicate 32 (pos 0))
-
-unfoldable pub phasesSure : Weights → Weights → (t : Tones) (stride count : ℕ) → Bool
-unfolding phaseSure
-phasesSure u v t stride count = passesBelow (λ i. phaseSure u v t (stride * i)) count
-
-unfoldable pub bothSure : Weights → Weights → (t : Tones) (stride count : ℕ) → Bool
-unfolding silentSure phasesSure
-bothSure u v t stride count = silentSure u v && phasesSure u v t stride count
+  unfoldable pub allSure : (t : Tones) (stride count : ℕ) → Bool
+  unfolding windowSure silenceSure phaseSure
+  allSure t stride count = windowSure silenceSure (replicate 32 (pos 0)) && passesBelow (λ i. phaseSure t (stride * i)) count
 
 unfoldable pub test : (noise : ℕ) (t : Tones) (stride count : ℕ) → Bool
-unfolding bothSure weightsOf
-test noise t stride count = bothSure (weightsOf noise (t .space)) (weightsOf noise (t .mark)) t stride count
+unfolding allSure weightsOf
+test noise t = allSure (weightsOf noise t) t
