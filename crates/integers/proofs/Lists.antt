@@ -44,6 +44,7 @@ module _ {A : Type 0} where
       ∙ ap (λ (l : List A). new ++ l) (drop-of-length-le old {i = length new} (omega arith))
       ∙ append-nil new
 
+-- a part of a map is the map of the part
 module _ {A B : Type 0} (f : A → B) where
   pub map-take : (n : ℕ) (l : List A) → map f (take n l) ≡ take n (map f l)
   map-take zero l = refl

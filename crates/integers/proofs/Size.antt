@@ -32,7 +32,7 @@ natAbs-+ℤ (negsuc a) (pos b) = omega (arith, natAbs-subℕ b (suc a))
 natAbs-+ℤ (negsuc a) (negsuc b) = omega arith
 
 -- the same from below
-pub natAbs-+ℤ-low : (a b : ℤ) → natAbs a ≤ natAbs (a +ℤ b) + natAbs b
+natAbs-+ℤ-low : (a b : ℤ) → natAbs a ≤ natAbs (a +ℤ b) + natAbs b
 natAbs-+ℤ-low a b = omega (arith, natAbs-+ℤ (a +ℤ b) (negℤ b), ap natAbs (+ℤ-negℤ-cancel a b), natAbs-negℤ b)
 
 -- the sizes of two numbers differ by no more than the numbers

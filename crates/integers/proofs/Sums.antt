@@ -42,8 +42,8 @@ dot-opposite (x ∷ xs) [] = refl
 dot-opposite (x ∷ xs) (w ∷ ws) =
     ap₂ (λ (y z : ℤ). y +ℤ z) (negℤ-*ℤ x w) (dot-opposite xs ws) ∙ sym (negℤ-+ℤ (x *ℤ w) (dot xs ws))
 
-pub size-opposite : (xs ws : List ℤ) → natAbs (dot (map negℤ xs) ws) ≡ natAbs (dot xs ws)
-size-opposite xs ws = ap natAbs (dot-opposite xs ws) ∙ natAbs-negℤ (dot xs ws)
+pub dot-opposite-size : (xs ws : List ℤ) → natAbs (dot (map negℤ xs) ws) ≡ natAbs (dot xs ws)
+dot-opposite-size xs ws = ap natAbs (dot-opposite xs ws) ∙ natAbs-negℤ (dot xs ws)
 
 -- the dot product is the sum a of the first k products and the rest
 pub dot-next : (xs ws : List ℤ) (k : ℕ) (a : ℤ) → k < length xs → k < length ws

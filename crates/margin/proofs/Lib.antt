@@ -1,6 +1,6 @@
-pub mod Energies
-pub mod Test
-pub mod Facts
+mod Energies
+mod Test
+mod Facts
 mod Opposite
-pub mod Phases
+mod Phases
 pub mod Bands

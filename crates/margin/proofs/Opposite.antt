@@ -9,7 +9,7 @@ use native.Mathlib.Omega.{arith}
 use lib.IntN.{ℤ, pos, negℤ}
 use lib.ListN.{take, drop, replicate}
 use Rattle.integers.proofs.Lists.{map-take, map-drop, map-replicate}
-use Rattle.integers.proofs.Sums.{size-opposite}
+use Rattle.integers.proofs.Sums.{dot-opposite-size}
 use Rattle.integers.proofs.Tests.{passesBelow}
 use Rattle.sine.specs.Wave.{wave}
 use Rattle.sine.proofs.Wave.{wave-same, wave-opposite}
@@ -21,7 +21,7 @@ use Rattle.margin.proofs.Test.{winsSure, readSure, Weights, windowSure,
 
 bounds-opposite : (w : ToneWeights) (sent : List ℤ) → bounds w (map negℤ sent) ≡ bounds w sent
 unfolding bounds
-bounds-opposite w sent = rw (size-opposite sent (w .cosines), size-opposite sent (w .sines))
+bounds-opposite w sent = rw (dot-opposite-size sent (w .cosines), dot-opposite-size sent (w .sines))
 
 -- the wave of the step s that begins n further on
 next-opposite : (s p n : ℕ) → wave 32 s ((p + 960 + n) % 1920) ≡ map negℤ (wave 32 s ((p + n) % 1920))
