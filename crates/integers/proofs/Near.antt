@@ -3,14 +3,42 @@
 -- Assumes nothing.
 use mathlib.Core.Path.{_≡_, refl, sym, ap, _∙_}
 use mathlib.Core.List.{List, [], _∷_, _++_}
-use Prim.Native.Nat.{ℕ, zero, suc, _+_, _*_, _≤_, zero-le}
-use native.Mathlib.Nat.{le-refl, le-trans, add-le-add, mul-le-mul-right, mul-add}
+use Prim.Native.Nat.{ℕ, zero, suc, _+_, _*_, _<_, _≤_, zero-le}
+use native.Mathlib.Nat.{le-refl, le-trans, not-suc-le-zero, le-of-suc-le-suc, add-le-add, mul-le-mul-right, mul-add}
 use lib.IntN.{ℤ, pos, negℤ, natAbs, _+ℤ_, _-ℤ_, _*ℤ_, negℤ-+ℤ, +ℤ-comm, +ℤ-invr, +ℤ-negℤ-cancel}
 use lib.ListN.{length, getD, take, drop}
 use Rattle.integers.specs.Sums.{size, dot, Bounded}
 use Rattle.integers.specs.Near.{altered, Near, none, more}
 use Rattle.integers.proofs.Ring.{+ℤ-swap, +ℤ-*ℤ, negℤ-*ℤ}
 use Rattle.integers.proofs.Size.{natAbs-+ℤ, natAbs-*ℤ, natAbs-near}
+
+-- ---- numbers that are added place by place
+
+pub length-altered : (xs ds : List ℤ) → length (altered xs ds) ≡ length xs
+unfolding altered
+length-altered [] ds = refl
+length-altered (x ∷ xs) [] = refl
+length-altered (x ∷ xs) (d ∷ ds) = ap suc (length-altered xs ds)
+
+pub altered-at : (xs ds : List ℤ) (k : ℕ) → k < length xs → k < length ds → getD (altered xs ds) k (pos 0) ≡ getD xs k (pos 0) +ℤ getD ds k (pos 0)
+unfolding altered
+altered-at [] ds k h l = absurd (not-suc-le-zero h)
+altered-at (x ∷ xs) [] k h l = absurd (not-suc-le-zero l)
+altered-at (x ∷ xs) (d ∷ ds) zero h l = refl
+altered-at (x ∷ xs) (d ∷ ds) (suc k) h l = altered-at xs ds k (le-of-suc-le-suc h) (le-of-suc-le-suc l)
+
+altered-none : (xs : List ℤ) → altered xs [] ≡ xs
+unfolding altered
+altered-none [] = refl
+altered-none (x ∷ xs) = refl
+
+pub altered-append : (xs ys ds : List ℤ) → altered (xs ++ ys) ds ≡ altered xs ds ++ altered ys (drop (length xs) ds)
+unfolding altered
+altered-append [] ys ds = refl
+altered-append (x ∷ xs) ys [] = ap (λ (l : List ℤ). x ∷ (xs ++ l)) (sym (altered-none ys))
+altered-append (x ∷ xs) ys (d ∷ ds) = ap (λ (l : List ℤ). (x +ℤ d) ∷ l) (altered-append xs ys ds)
+
+-- ---- lists that are near
 
 module _ {n : ℕ} where
   pub near-length : {xs ys : List ℤ} → Near n xs ys → length xs ≡ length ys

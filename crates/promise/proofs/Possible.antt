@@ -34,7 +34,7 @@ use Rattle.receiver.specs.Lists as reading
 use Rattle.receiver.proofs.Ranges as receiver-ranges
 use Rattle.receiver.proofs.Calls.{block-0}
 use Rattle.receiver.proofs.Lists.{one-reading}
-use Rattle.promise.specs.Recordings.{AreBytes, bytesOf, EndsSending, IsSending, trailer, text, leader, silence, Recording, Transmission, characters}
+use Rattle.promise.specs.Recordings.{AreBytes, bytesOf, charactersSent, EndsSending, IsSending, trailer, text, leader, silence, Recording, Transmission, characters}
 use Rattle.promise.specs.Demand.{disturbance}
 use Rattle.promise.specs.Possible.{concat, endingCalls, sendingCalls, blockCalls, IsText, Possible, NotVacuous}
 use Rattle.promise.proofs.Promise.{recording-near}
@@ -108,7 +108,7 @@ blocks-samples entry [] = refl
 blocks-samples entry (block ∷ blocks) = ap (λ (l : List ℤ). block ++ l) (blocks-samples entry blocks)
 
 -- a recording is in the range of samples: 6,000 and 100 are below 8,192
-recorded-samples : (s : Transmitter) (calls : List sending.Call) (recorded : List ℤ) → Recording disturbance (sending.samplesWritten s calls) recorded
+pub recorded-samples : (s : Transmitter) (calls : List sending.Call) (recorded : List ℤ) → Recording disturbance (sending.samplesWritten s calls) recorded
     → areSamples recorded ≡ true
 recorded-samples s calls recorded r =
     bounded-samples recorded (omega arith)
@@ -122,6 +122,18 @@ recorded-samples s calls recorded r =
 
 -- ---- both
 
+module _ (band : ℕ) (known : isBand band ≡ true) (texts : List (List ℕ)) (ts : All IsText texts) where
+  all-sent : acceptedCalls sending.callOf (transmitter.fresh band) (sendingCalls texts) ≡ sendingCalls texts
+  all-sent =
+      all-accepted sending.callOf (λ (s : Transmitter). transmitter.inRange s ≡ true) SendFits send-accepts (sendingCalls texts)
+      (more idle-fits (ending-fits texts ts)) (transmitter.fresh band) (transmitter-rules.fresh-kept band known)
+
+  pub message-sent : charactersSent band (sendingCalls texts) ≡ concat texts
+  message-sent = joined-each sending.callOf bytesOf (transmitter.fresh band) (sendingCalls texts) ∙ ap (each bytesOf) all-sent ∙ ending-bytes texts
+
+  pub is-sending : IsSending (acceptedCalls sending.callOf (transmitter.fresh band) (sendingCalls texts))
+  is-sending = subst IsSending (sym all-sent) (leader (silence 96) (ending-shape texts))
+
 pub not-vacuous : NotVacuous
 not-vacuous entry band known texts ts blocks bs r =
     record {
@@ -130,8 +142,8 @@ not-vacuous entry band known texts ts blocks bs r =
             band = band;
             known = known;
             sent = sendingCalls texts;
-            shape = subst IsSending (sym all-sent) (leader (silence 96) (ending-shape texts));
-            bytes = subst AreBytes (sym message) (texts-bytes texts ts);
+            shape = is-sending band known texts ts;
+            bytes = subst AreBytes (sym (message-sent band known texts ts)) (texts-bytes texts ts);
             recorded = concat blocks;
             recording = r;
             blocks = blockCalls entry blocks;
@@ -141,21 +153,13 @@ not-vacuous entry band known texts ts blocks bs r =
           };
       in-band = refl;
       sent = refl;
-      all-sent = all-sent;
-      message = message;
+      all-sent = all-sent band known texts ts;
+      message = message-sent band known texts ts;
       recorded = refl;
       read = refl;
       all-read = all-read;
     }
   where
-    all-sent : acceptedCalls sending.callOf (transmitter.fresh band) (sendingCalls texts) ≡ sendingCalls texts
-    all-sent =
-        all-accepted sending.callOf (λ (s : Transmitter). transmitter.inRange s ≡ true) SendFits send-accepts (sendingCalls texts) (more idle-fits (ending-fits texts ts))
-        (transmitter.fresh band) (transmitter-rules.fresh-kept band known)
-
-    message : joined sending.callOf (λ o c. bytesOf c) (transmitter.fresh band) (sendingCalls texts) ≡ concat texts
-    message = joined-each sending.callOf bytesOf (transmitter.fresh band) (sendingCalls texts) ∙ ap (each bytesOf) all-sent ∙ ending-bytes texts
-
     all-read : acceptedCalls reading.callOf (receiver.fresh band) (blockCalls entry blocks) ≡ blockCalls entry blocks
     all-read =
         all-accepted reading.callOf (λ (s : Receiver). receiver.inRange s ≡ true) ReadFits read-accepts (blockCalls entry blocks)

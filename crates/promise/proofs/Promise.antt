@@ -21,7 +21,7 @@ use Rattle.receiver.proofs.Windows.{by-windows}
 use Rattle.margin.specs.Windows.{Margins}
 use Rattle.margin.proofs.Bands.{margins}
 use Rattle.promise.specs.Recordings as recordings
-use Rattle.promise.specs.Recordings.{AreBytes, bytesOf, EndsSending, IsSending, trailer, text, leader, silence, Recording, Transmission, characters, events}
+use Rattle.promise.specs.Recordings.{AreBytes, bytesOf, charactersSent, EndsSending, IsSending, trailer, text, leader, silence, Recording, Transmission, characters, events}
 use Rattle.promise.specs.Demand.{disturbance, ReadAsSent, Demand3}
 use Rattle.promise.proofs.Recording.{recorded}
 
@@ -51,19 +51,19 @@ pub recording-near : {noise : ℕ} {samples recorded : List ℤ} (r : Recording 
     → Near noise (silence (r .before) ++ (samples ++ silence (r .after))) recorded
 recording-near {samples = samples} r = rw (r .sum) (near-altered (silence (r .before) ++ (samples ++ silence (r .after))) (r .added) (r .small))
 
+-- the samples of a sending are those of the leader, the characters and the trailer
+pub sent-samples : (band : ℕ) (calls : List sending.Call) → IsSending (acceptedCalls sending.callOf (transmitter.fresh band) calls)
+    → sending.samplesWritten (transmitter.fresh band) calls ≡ sendBits (tonesOf band) 0 (idleBits ++ (charactersBits (charactersSent band calls) ++ idleBits))
+sent-samples band calls shape =
+    samples-written (transmitter.fresh band) calls
+    ∙ ap (sendBits (tonesOf band) 0)
+    (joined-each sending.callOf sending.bitsOf (transmitter.fresh band) calls
+    ∙ sending-bits (acceptedCalls sending.callOf (transmitter.fresh band) calls) shape
+    ∙ ap (λ (cs : List ℕ). idleBits ++ (charactersBits cs ++ idleBits)) (sym (joined-each sending.callOf bytesOf (transmitter.fresh band) calls)))
+
 module _ {noise : ℕ} (t : Transmission noise) (M : Margins noise (tonesOf (t .band))) where
   abbrev tones : Tones
   tones = tonesOf (t .band)
-
-  -- the samples sent are those of the leader, the characters and the trailer
-  sent : sending.samplesWritten (transmitter.fresh (t .band)) (t .sent) ≡ sendBits tones 0 (idleBits ++ (charactersBits (characters t) ++ idleBits))
-  sent =
-      samples-written (transmitter.fresh (t .band)) (t .sent)
-      ∙ ap (sendBits tones 0)
-      (joined-each sending.callOf sending.bitsOf (transmitter.fresh (t .band)) (t .sent)
-      ∙ sending-bits (acceptedCalls sending.callOf (transmitter.fresh (t .band)) (t .sent)) (t .shape)
-      ∙ ap (λ (cs : List ℕ). idleBits ++ (charactersBits cs ++ idleBits))
-      (sym (joined-each sending.callOf bytesOf (transmitter.fresh (t .band)) (t .sent))))
 
   pub read-as-sent : events t ≡ characters t
   read-as-sent =
@@ -75,7 +75,7 @@ module _ {noise : ℕ} (t : Transmission noise) (M : Margins noise (tonesOf (t .
       samples = reading.samplesRead (receiver.fresh (t .band)) (t .blocks)
 
       near : Near noise (silence (t .recording .before) ++ (sendBits tones 0 (idleBits ++ (charactersBits (characters t) ++ idleBits)) ++ silence (t .recording .after))) samples
-      near = rw (t .read, ← sent) (recording-near (t .recording))
+      near = rw (t .read, ← sent-samples (t .band) (t .sent) (t .shape)) (recording-near (t .recording))
 
   pub sound : AreBytes (events t)
   sound = subst AreBytes (sym read-as-sent) (t .bytes)

@@ -14,7 +14,7 @@ use lib.ListN.{drop}
 use Rattle.integers.proofs.Tests.{cond-case, cond-split}
 use Rattle.calls.specs.Runs.{after}
 use Rattle.tones.specs.Bands.{isBand}
-use Rattle.tones.specs.Samples.{isSample, areSamples}
+use Rattle.tones.specs.Samples.{isSample, areBetween, areSamples}
 use Rattle.tones.proofs.Samples.{samples-append, samples-drop}
 use Rattle.receiver.specs.declared.Decision.{Decision}
 use Rattle.receiver.specs.declared.Next.{Next}
@@ -23,7 +23,7 @@ use Rattle.receiver.specs.declared.Stage.the-variants.{Searching, Waitin
 use Rattle.receiver.specs.declared.Receiver.{Receiver}
 use Rattle.receiver.specs.Step.{runAfter, gathered, taken, nextOf, Control, controlAfter, controlOf, decisionAt, stepOf, stateAfter}
 use Rattle.receiver.specs.Windows.{follow}
-use Rattle.receiver.specs.Calls.{fresh, isWait, isSlot, isStage, isControl, inRange}
+use Rattle.receiver.specs.Calls.{fresh, openOf, isWait, isSlot, isStage, isControl, inRange}
 
 -- ---- waits
 
@@ -152,7 +152,7 @@ in-range s h =
     }
 
 step-kept : (s : Receiver) (x : ℤ) → inRange s ≡ true → isSample x ≡ true → inRange (stepOf s x) ≡ true
-unfolding inRange stepOf areSamples
+unfolding inRange stepOf areBetween
 step-kept s x h l =
     let r : InRange s = in-range s h in
     and-intro (r .band)
@@ -161,7 +161,7 @@ step-kept s x h l =
     (control-kept (controlOf s) (decisionAt s x) (r .control)))
 
 pub state-kept : (s : Receiver) (xs : List ℤ) → inRange s ≡ true → areSamples xs ≡ true → inRange (stateAfter s xs) ≡ true
-unfolding after areSamples
+unfolding after areBetween
 state-kept s [] h l = h
 state-kept s (x ∷ xs) h l =
     state-kept (stepOf s x) xs (step-kept s x h (and-elim-left (isSample x) (areSamples xs) l)) (and-elim-right (isSample x) (areSamples xs) l)
@@ -182,8 +182,12 @@ module _ (s : Receiver) where
     unfolding inRange
     range-control e = rw (b, e)
 
--- ---- a fresh state of a band is in its ranges
+-- ---- an opening of a band gives its fresh state, which is in its ranges
+
+pub open-band : (band : ℕ) → isBand band ≡ true → openOf band .receiver ≡ fresh band
+unfolding openOf
+open-band band h = rw h
 
 pub fresh-kept : (band : ℕ) → isBand band ≡ true → inRange (fresh band) ≡ true
-unfolding inRange areSamples isControl isStage
+unfolding inRange areBetween isControl isStage
 fresh-kept band h = and-intro h refl

@@ -1,4 +1,4 @@
--- Laws of the range of samples: parts of a list, lists joined, the size of each sample, and a loop that tests them one by one.
+-- Laws of ranges: parts of a list, lists joined, the size of each number, and a loop that tests them one by one.
 -- Assumes nothing.
 use mathlib.Core.Path.{_≡_, refl, sym, ap, _∙_}
 use mathlib.Core.Bool.{Bool, true, _&&_, and-assoc, and-true}
@@ -14,15 +14,34 @@ use lib.ListN.{length, getD, take, drop, take-append-drop, drop-of-length-le}
 use lib.Seq.{drop-cons}
 use lib.Signed.{leZ}
 use Rattle.integers.specs.Sums.{Bounded}
-use Rattle.tones.specs.Samples.{isSample, areSamples}
+use Rattle.tones.specs.Samples.{isBetween, areBetween, areSamples}
 
 -- ---- parts
 
+module _ (low high : ℤ) where
+  pub between-append : (xs ys : List ℤ) → areBetween low high (xs ++ ys) ≡ (areBetween low high xs && areBetween low high ys)
+  unfolding areBetween
+  between-append [] ys = refl
+  between-append (x ∷ xs) ys =
+      ap (λ (b : Bool). isBetween low high x && b) (between-append xs ys)
+      ∙ sym (and-assoc (isBetween low high x) (areBetween low high xs) (areBetween low high ys))
+
+  -- a loop that tests them one by one: `good` says if those before place k are in the range
+  module _ (xs : List ℤ) (k : ℕ) (good : Bool) (e : areBetween low high xs ≡ (good && areBetween low high (drop k xs))) where
+    pub tested-more : k < length xs
+        → areBetween low high xs ≡ (good && isBetween low high (getD xs k (pos 0)) && areBetween low high (drop (k + 1) xs))
+    unfolding areBetween
+    tested-more h =
+        e
+        ∙ rw (add-one k, drop-cons xs k (pos 0) h)
+        (sym (and-assoc good (isBetween low high (getD xs k (pos 0))) (areBetween low high (drop (suc k) xs))))
+
+    pub tested-all : length xs ≤ k → areBetween low high xs ≡ good
+    unfolding areBetween
+    tested-all h = e ∙ rw (drop-of-length-le xs {i = k} h) (and-true good)
+
 pub samples-append : (xs ys : List ℤ) → areSamples (xs ++ ys) ≡ (areSamples xs && areSamples ys)
-unfolding areSamples
-samples-append [] ys = refl
-samples-append (x ∷ xs) ys =
-    ap (λ (b : Bool). isSample x && b) (samples-append xs ys) ∙ sym (and-assoc (isSample x) (areSamples xs) (areSamples ys))
+samples-append = between-append (negsuc 8190) (pos 8191)
 
 -- a list is cut at n
 module _ (n : ℕ) (xs : List ℤ) (h : areSamples xs ≡ true) where
@@ -35,42 +54,42 @@ module _ (n : ℕ) (xs : List ℤ) (h : areSamples xs ≡ true) where
   pub samples-drop : areSamples (drop n xs) ≡ true
   samples-drop = and-elim-right (areSamples (take n xs)) (areSamples (drop n xs)) both
 
--- ---- sizes
+-- ---- sizes, in the range from -(n + 1) to n + 1
 
-sample-size : (x : ℤ) → isSample x ≡ true → natAbs x ≤ 8191
-sample-size (pos n) h = leb-true n 8191 (and-elim-right (leZ (negsuc 8190) (pos n)) (leZ (pos n) (pos 8191)) h)
-sample-size (negsuc n) h =
-    let l : n ≤ 8190 = leb-true n 8190 (and-elim-left (leZ (negsuc 8190) (negsuc n)) (leZ (negsuc n) (pos 8191)) h) in omega arith
+module _ (n : ℕ) where
+  abbrev inside : ℤ → Bool
+  inside = isBetween (negsuc n) (pos (suc n))
 
-size-at : (xs : List ℤ) → areSamples xs ≡ true → (k : ℕ) → natAbs (getD xs k (pos 0)) ≤ 8191
-unfolding areSamples
-size-at [] h k = zero-le
-size-at (x ∷ xs) h zero = sample-size x (and-elim-left (isSample x) (areSamples xs) h)
-size-at (x ∷ xs) h (suc k) = size-at xs (and-elim-right (isSample x) (areSamples xs) h) k
+  abbrev allInside : List ℤ → Bool
+  allInside = areBetween (negsuc n) (pos (suc n))
+
+  size : (x : ℤ) → inside x ≡ true → natAbs x ≤ suc n
+  size (pos m) h = leb-true m (suc n) (and-elim-right (leZ (negsuc n) (pos m)) (leZ (pos m) (pos (suc n))) h)
+  size (negsuc m) h =
+      let l : m ≤ n = leb-true m n (and-elim-left (leZ (negsuc n) (negsuc m)) (leZ (negsuc m) (pos (suc n))) h) in omega arith
+
+  size-at : (xs : List ℤ) → allInside xs ≡ true → (k : ℕ) → natAbs (getD xs k (pos 0)) ≤ suc n
+  unfolding areBetween
+  size-at [] h k = zero-le
+  size-at (x ∷ xs) h zero = size x (and-elim-left (inside x) (allInside xs) h)
+  size-at (x ∷ xs) h (suc k) = size-at xs (and-elim-right (inside x) (allInside xs) h) k
+
+  pub between-bound : (xs : List ℤ) → allInside xs ≡ true → Bounded (suc n) xs
+  between-bound xs h = record { at = size-at xs h }
+
+  -- and numbers of that size are in the range
+  small : (x : ℤ) → natAbs x ≤ suc n → inside x ≡ true
+  small (pos m) h = le-leb m (suc n) h
+  small (negsuc m) h = rw (le-leb m n (le-of-suc-le-suc h))
+
+  pub bounded-between : (xs : List ℤ) {m : ℕ} → m ≤ suc n → Bounded m xs → allInside xs ≡ true
+  unfolding areBetween
+  bounded-between [] h b = refl
+  bounded-between (x ∷ xs) h b =
+      and-intro (small x (le-trans (b .at 0) h)) (bounded-between xs h (record { at = λ k. b .at (suc k) }))
 
 pub samples-bound : (xs : List ℤ) → areSamples xs ≡ true → Bounded 8191 xs
-samples-bound xs h = record { at = size-at xs h }
+samples-bound = between-bound 8190
 
--- and numbers of that size are samples
-small-sample : (x : ℤ) → natAbs x ≤ 8191 → isSample x ≡ true
-small-sample (pos n) h = le-leb n 8191 h
-small-sample (negsuc n) h = rw (le-leb n 8190 (le-of-suc-le-suc h))
-
-pub bounded-samples : (xs : List ℤ) {n : ℕ} → n ≤ 8191 → Bounded n xs → areSamples xs ≡ true
-unfolding areSamples
-bounded-samples [] h b = refl
-bounded-samples (x ∷ xs) h b =
-    and-intro (small-sample x (le-trans (b .at 0) h)) (bounded-samples xs h (record { at = λ k. b .at (suc k) }))
-
--- ---- a loop that tests them one by one: `good` says if those before place k are samples
-
-module _ (xs : List ℤ) (k : ℕ) (good : Bool) (e : areSamples xs ≡ (good && areSamples (drop k xs))) where
-  pub tested-more : k < length xs → areSamples xs ≡ (good && isSample (getD xs k (pos 0)) && areSamples (drop (k + 1) xs))
-  unfolding areSamples
-  tested-more h =
-      e
-      ∙ rw (add-one k, drop-cons xs k (pos 0) h) (sym (and-assoc good (isSample (getD xs k (pos 0))) (areSamples (drop (suc k) xs))))
-
-  pub tested-all : length xs ≤ k → areSamples xs ≡ good
-  unfolding areSamples
-  tested-all h = e ∙ rw (drop-of-length-le xs {i = k} h) (and-true good)
+pub bounded-samples : (xs : List ℤ) {m : ℕ} → m ≤ 8191 → Bounded m xs → areSamples xs ≡ true
+bounded-samples = bounded-between 8190

@@ -1,15 +1,22 @@
--- The range of a sample: document 01, "Reader, step by step".
+-- Ranges of numbers, and the range of a sample: document 01, "Reader, step by step".
 -- Assumes nothing.
 use mathlib.Core.Bool.{Bool, true, _&&_}
 use mathlib.Core.List.{List, [], _∷_}
 use lib.IntN.{ℤ, pos, negsuc}
 use lib.Signed.{leZ}
 
--- a signed number from -8191 to 8191; negsuc n is -(n + 1)
-abbrev pub isSample : ℤ → Bool
-isSample x = leZ (negsuc 8190) x && leZ x (pos 8191)
+-- at least `low` and at most `high`
+abbrev pub isBetween : ℤ → ℤ → ℤ → Bool
+isBetween low high x = leZ low x && leZ x high
 
--- every number of the list is a sample
-unfoldable pub areSamples : List ℤ → Bool
-areSamples [] = true
-areSamples (x ∷ xs) = isSample x && areSamples xs
+-- every number of the list is
+unfoldable pub areBetween : ℤ → ℤ → List ℤ → Bool
+areBetween low high [] = true
+areBetween low high (x ∷ xs) = isBetween low high x && areBetween low high xs
+
+-- a sample is a signed number from -8191 to 8191; negsuc n is -(n + 1)
+abbrev pub isSample : ℤ → Bool
+isSample = isBetween (negsuc 8190) (pos 8191)
+
+abbrev pub areSamples : List ℤ → Bool
+areSamples = areBetween (negsuc 8190) (pos 8191)

@@ -1,7 +1,7 @@
 // The tones of the bands: how far each moves the phase in a sample, in 1,920ths of a cycle (5 Hz). And the range of a sample.
 ghost use mathlib.Core.Path.{_≡_};
 ghost use Rattle.tones.specs.Bands.{isBand, tonesOf};
-ghost use Rattle.tones.specs.Samples.{isSample, areSamples};
+ghost use Rattle.tones.specs.Samples.{isBetween, areBetween, areSamples};
 
 // The steps of the two tones. Neither is taken to be the larger.
 pub struct Tones {
@@ -38,22 +38,28 @@ pub fn tones_of(band: u8) -> Tones
     }
 }
 
-// Every number is a sample. It goes on behind one that is not, so that the loop becomes vector code.
+// Every number is a sample.
 pub fn are_samples(xs: &[i16]) -> bool
     ensures { λ r. ⌜ r ≡ areSamples (now (xs .entry)) ⌝ }
+{
+    are_between(xs, -8191, 8191)
+}
+
+// Every number is at least `low` and at most `high`. It goes on behind one that is not, so that the loop becomes vector code.
+pub fn are_between(xs: &[i16], low: i16, high: i16) -> bool
+    ensures { λ r. ⌜ r ≡ areBetween low high (now (xs .entry)) ⌝ }
 {
     let mut good = true;
     let mut k: usize = 0;
     while k < xs.len() {
-        good = good & is_sample(xs[k]);
+        good = good & is_between(xs[k], low, high);
         k += 1;
     }
     good
 }
 
-// Both sides are tested, since -32768 has no opposite.
-fn is_sample(x: i16) -> bool
-    ensures { λ r. ⌜ r ≡ isSample x ⌝ }
+fn is_between(x: i16, low: i16, high: i16) -> bool
+    ensures { λ r. ⌜ r ≡ isBetween low high x ⌝ }
 {
-    -8191 <= x && x <= 8191
+    low <= x && x <= high
 }

@@ -52,10 +52,10 @@ call-runs s (characters bytes lent) =
     characters-case (CallRuns c s) s lent bytes (refuses c s lent 1) (refuses c s lent 2) (refuses c s lent 3) (sends c s lent)
 
 -- steps keep a state in its ranges
-stays : (s : Transmitter) (steps : List ℕ) → inRange s ≡ true
+pub steps-kept : (s : Transmitter) (steps : List ℕ) → inRange s ≡ true
     → inRange (record { band = s .band; phase = phaseAfter (s .phase) steps }) ≡ true
 unfolding inRange
-stays s steps h =
+steps-kept s steps h =
     let band = and-elim-left (isBand (s .band)) (ltb (s .phase) 1920) h in
     let phase = ltb-true (s .phase) 1920 (and-elim-right (isBand (s .band)) (ltb (s .phase) 1920) h) in
     and-intro band (lt-ltb (phaseAfter (s .phase) steps) 1920 (phase-below (s .phase) steps phase))
@@ -71,7 +71,7 @@ continuous s calls =
       sample = λ i h. ap (λ (l : List ℤ). getD l i (pos 0)) (samples-written s calls) ∙ send-at (s .phase) (stepsSent s calls) i h;
       phase = ap (λ (t : Transmitter). t .phase % 1920) state ∙ phase-total (s .phase) (stepsSent s calls);
       band = ap (λ (t : Transmitter). t .band) state;
-      range = λ h. rw state (stays s (stepsSent s calls) h);
+      range = λ h. rw state (steps-kept s (stepsSent s calls) h);
     }
   where
     state : stateAfter callOf s calls ≡ record { band = s .band; phase = phaseAfter (s .phase) (stepsSent s calls) }

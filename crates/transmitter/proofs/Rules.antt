@@ -18,10 +18,14 @@ use Rattle.tones.specs.Bands.{isBand, tonesOf}
 use Rattle.transmitter.specs.declared.Transmitter.{Transmitter}
 use Rattle.transmitter.specs.declared.Sent.{Sent}
 use Rattle.transmitter.specs.Samples.{idleBits, charactersBits, sendBits, phaseBits}
-use Rattle.transmitter.specs.Calls.{fresh, inRange, samplesOf, sent, idleOf, charactersOf}
+use Rattle.transmitter.specs.Calls.{fresh, openOf, inRange, samplesOf, sent, idleOf, charactersOf}
 use Rattle.transmitter.proofs.Laws.{length-bits}
 
--- a fresh state of a band is in its ranges
+-- an opening of a band gives its fresh state, which is in its ranges
+pub open-band : (band : ℕ) → isBand band ≡ true → openOf band .transmitter ≡ fresh band
+unfolding openOf
+open-band band h = rw h
+
 pub fresh-kept : (band : ℕ) → isBand band ≡ true → inRange (fresh band) ≡ true
 unfolding inRange
 fresh-kept band h = and-intro h refl

@@ -1,0 +1,4 @@
+pub mod Refusals
+pub mod Sending
+pub mod Receiving
+pub mod Promised

@@ -1,0 +1,91 @@
+-- What the promise says of a loopback: read by the step rule, the disturbed samples give the characters. The sending and a reading of
+-- it through the second entry make a transmission, of which demand 3 speaks.
+-- Assumes nothing.
+use mathlib.Core.Path.{_≡_, refl, sym, ap, ap₂, _∙_, subst}
+use mathlib.Core.Bool.{true}
+use mathlib.Core.List.{List, [], _∷_, _++_, map, append-nil}
+use Prim.Native.Nat.{ℕ, zero, suc, _≤_, _<_}
+use native.Mathlib.Omega.{arith}
+use lib.IntN.{ℤ}
+use lib.ListN.{length, getD}
+use Rattle.integers.specs.All.{All, none, more}
+use Rattle.integers.specs.Near.{altered}
+use Rattle.integers.specs.Sums.{Bounded}
+use Rattle.tones.specs.Bands.{isBand, tonesOf}
+use Rattle.tones.specs.Samples.{areSamples}
+use Rattle.transmitter.specs.Samples.{sendBits, idleBits, charactersBits}
+use Rattle.transmitter.specs.Calls as transmitter
+use Rattle.transmitter.specs.Lists as sending
+use Rattle.receiver.specs.Step.{eventsAfter}
+use Rattle.receiver.specs.Calls.{fresh}
+use Rattle.receiver.specs.Lists.{inPlace}
+use Rattle.receiver.proofs.Lists.{one-reading}
+use Rattle.promise.specs.Recordings.{AreBytes, Recording, Transmission, characters}
+use Rattle.promise.specs.Demand.{disturbance}
+use Rattle.promise.specs.Possible.{concat, sendingCalls, IsText, Possible}
+use Rattle.promise.proofs.Promise.{sent-samples, demand-3}
+use Rattle.promise.proofs.Possible.{message-sent, is-sending, recorded-samples, not-vacuous}
+use Rattle.loopback.specs.Loopback.{recordedOf}
+
+-- the numbers of a list of bytes
+pub are-bytes : (cs : List ℕ) → ((i : ℕ) → getD cs i 0 < 256) → AreBytes cs
+are-bytes [] h = none
+are-bytes (c ∷ cs) h = more (h 0) (are-bytes cs (λ i. h (suc i)))
+
+-- each sample as a block
+blocks : List ℤ → List (List ℤ)
+blocks [] = []
+blocks (x ∷ xs) = (x ∷ []) ∷ blocks xs
+
+blocks-join : (xs : List ℤ) → concat (blocks xs) ≡ xs
+unfolding blocks
+blocks-join [] = refl
+blocks-join (x ∷ xs) = ap (λ (l : List ℤ). x ∷ l) (blocks-join xs)
+
+blocks-short : (xs : List ℤ) → All (λ block. length block ≤ 16384) (blocks xs)
+unfolding blocks
+blocks-short [] = none
+blocks-short (x ∷ xs) = let h : 1 ≤ 16384 = omega arith in more h (blocks-short xs)
+
+module _ (band : ℕ) (known : isBand band ≡ true) (cs : List ℕ) (bytes : AreBytes cs) (few : length cs ≤ 100) (ds : List ℤ) (small : Bounded disturbance ds) where
+  abbrev texts : List (List ℕ)
+  texts = cs ∷ []
+
+  is-text : All IsText texts
+  is-text = more (record { bytes = bytes; few = few }) none
+
+  joined : concat texts ≡ cs
+  joined = append-nil cs
+
+  -- the sending by a leader, one characters call and a trailer
+  sent : sending.samplesWritten (transmitter.fresh band) (sendingCalls texts) ≡ sendBits (tonesOf band) 0 (idleBits ++ (charactersBits cs ++ idleBits))
+  sent =
+      sent-samples band (sendingCalls texts) (is-sending band known texts is-text)
+      ∙ ap (λ (l : List ℕ). sendBits (tonesOf band) 0 (idleBits ++ (charactersBits l ++ idleBits))) (message-sent band known texts is-text ∙ joined)
+
+  recording : Recording disturbance (sending.samplesWritten (transmitter.fresh band) (sendingCalls texts)) (recordedOf band cs ds)
+  recording =
+      record {
+        before = 0;
+        after = 0;
+        added = ds;
+        small = small;
+        sum = ap (λ (xs : List ℤ). altered xs ds) (sym (append-nil _ ∙ sent));
+      }
+
+  pub recorded-range : areSamples (recordedOf band cs ds) ≡ true
+  recorded-range = recorded-samples (transmitter.fresh band) (sendingCalls texts) (recordedOf band cs ds) recording
+
+  read : Possible inPlace band texts (blocks (recordedOf band cs ds))
+  read =
+      not-vacuous inPlace band known texts is-text (blocks (recordedOf band cs ds)) (blocks-short (recordedOf band cs ds))
+      (subst (Recording disturbance (sending.samplesWritten (transmitter.fresh band) (sendingCalls texts))) (sym (blocks-join (recordedOf band cs ds))) recording)
+
+  pub read-back : eventsAfter (fresh band) (recordedOf band cs ds) ≡ cs
+  read-back =
+      let t : Transmission disturbance = read .transmission in
+      sym
+      (one-reading (fresh (t .band)) (t .blocks) .events
+      ∙ ap₂ (λ (b : ℕ) (xs : List ℤ). eventsAfter (fresh b) xs) (read .in-band)
+      (t .read ∙ read .recorded ∙ blocks-join (recordedOf band cs ds)))
+      ∙ demand-3 t t .first ∙ read .message ∙ joined

@@ -1,0 +1,111 @@
+-- What a sending call leaves in its buffer, and that three parts, disturbed and put one behind the other, are the recording.
+-- Assumes nothing.
+use mathlib.Core.Path.{_≡_, sym, ap, ap₂, _∙_, subst}
+use mathlib.Core.List.{List, [], _∷_, _++_, append-nil}
+use Prim.Native.Nat.{ℕ, _+_, _*_, _≤_}
+use native.Mathlib.Nat.{zero-add, le-trans}
+use native.Mathlib.Omega.{arith}
+use lib.IntN.{ℤ}
+use lib.ListN.{length, take, drop, drop-of-length-le, length-append}
+use lib.Seq.{sets, take-at, drop-drop}
+use Rattle.integers.specs.Near.{altered}
+use Rattle.integers.specs.Sums.{Bounded}
+use Rattle.integers.proofs.Near.{length-altered, altered-append}
+use Rattle.integers.proofs.Lists.{sets-append}
+use Rattle.calls.specs.Outcome.{Outcome, outcome}
+use Rattle.tones.specs.declared.Tones.{Tones}
+use Rattle.tones.specs.Bands.{tonesOf}
+use Rattle.transmitter.specs.declared.Transmitter.{Transmitter}
+use Rattle.transmitter.specs.declared.Sent.{Sent}
+use Rattle.transmitter.specs.Samples.{sendBits, phaseBits, bitSteps, idleBits, charactersBits}
+use Rattle.transmitter.specs.Calls.{fresh, samplesOf, afterBits, sent}
+use Rattle.transmitter.proofs.Laws.{length-bits, length-characters, send-bound, send-bits-append}
+use Rattle.loopback.specs.Loopback.{samplesFor, recordedOf, Disturbs}
+
+-- ---- an accepted call: the buffer was `part` and is `now`
+
+module _ (s : Transmitter) (bits : List ℕ) (r : Sent) (part now : List ℤ) (e : outcome (r .answer) (r .transmitter) now ≡ sent s bits part) where
+  pub next-state : r .transmitter ≡ afterBits s bits
+  next-state = ap (λ (o : Outcome Transmitter ℤ). o .state) e
+
+  pub samples-front : (n : ℕ) → 32 * length bits ≡ n → take n now ≡ samplesOf s bits
+  samples-front n l =
+      ap (λ (o : Outcome Transmitter ℤ). take n (o .lent)) e
+      ∙ take-at (samplesOf s bits) (drop (length (samplesOf s bits)) part) n (length-bits (tonesOf (s .band)) (s .phase) bits ∙ l)
+
+  pub samples-whole : length part ≤ 32 * length bits → now ≡ samplesOf s bits
+  samples-whole h =
+      let l = length-bits (tonesOf (s .band)) (s .phase) bits in
+      ap (λ (o : Outcome Transmitter ℤ). o .lent) e
+      ∙ ap (λ (xs : List ℤ). samplesOf s bits ++ xs) (drop-of-length-le part {i = length (samplesOf s bits)} (omega arith))
+      ∙ append-nil (samplesOf s bits)
+
+-- what `put_disturbed` asks of them
+pub put-asks : (s : Transmitter) (bits : List ℕ) (xs : List ℤ) → xs ≡ samplesOf s bits → (n at : ℕ) (disturbance out : List ℤ)
+    → 32 * length bits ≡ n → Disturbs (at + n) disturbance out → (Bounded 6000 xs) × (Disturbs (at + length xs) disturbance out)
+put-asks s bits xs e n at disturbance out l d =
+    rw (e, length-bits (tonesOf (s .band)) (s .phase) bits, l) (send-bound (s .phase) (bitSteps (tonesOf (s .band)) bits), d)
+
+pub characters-count : (cs : List ℕ) → 32 * length (charactersBits cs) ≡ 320 * length cs
+characters-count cs = omega (arith, length-characters cs)
+
+-- fewer numbers and places, in a list that is as long
+pub disturbs-less : {n m : ℕ} (ds old new : List ℤ) → Disturbs n ds old → m ≤ n → length new ≡ length old → Disturbs m ds new
+disturbs-less ds old new d h e =
+    record { numbers = le-trans h (d .numbers); places = rw e (le-trans h (d .places)); small = d .small }
+
+-- ---- three parts
+
+module _ (a b c ds lent : List ℤ) (n : ℕ) (la : length a ≡ 96) (lb : length b ≡ n) where
+  abbrev first : List ℤ
+  first = altered a ds
+
+  abbrev second : List ℤ
+  second = altered b (drop 96 ds)
+
+  abbrev third : List ℤ
+  third = altered c (drop (96 + n) ds)
+
+  altered-parts : altered (a ++ (b ++ c)) ds ≡ first ++ (second ++ third)
+  altered-parts =
+      altered-append a (b ++ c) ds
+      ∙ ap (λ (k : ℕ). first ++ altered (b ++ c) (drop k ds)) la
+      ∙ ap (λ (xs : List ℤ). first ++ xs)
+      (altered-append b c (drop 96 ds)
+      ∙ ap (λ (k : ℕ). second ++ altered c (drop k (drop 96 ds))) lb
+      ∙ ap (λ (xs : List ℤ). second ++ altered c xs) (drop-drop n 96 ds))
+
+  sets-parts : sets lent 0 (altered (a ++ (b ++ c)) ds) ≡ sets (sets (sets lent 0 first) 96 second) (96 + n) third
+  sets-parts =
+      ap (sets lent 0) altered-parts
+      ∙ sets-append lent 0 first (second ++ third)
+      ∙ ap (λ (k : ℕ). sets (sets lent 0 first) k (second ++ third)) (zero-add (length first) ∙ length-altered a ds ∙ la)
+      ∙ sets-append (sets lent 0 first) 96 second third
+      ∙ ap (λ (k : ℕ). sets (sets (sets lent 0 first) 96 second) (96 + k) third) (length-altered b (drop 96 ds) ∙ lb)
+
+module _ (band : ℕ) (cs : List ℕ) (ds lent : List ℤ) where
+  abbrev t : Tones
+  t = tonesOf band
+
+  abbrev begun : Transmitter
+  begun = afterBits (fresh band) idleBits
+
+  abbrev ended : Transmitter
+  ended = afterBits begun (charactersBits cs)
+
+  pub all-parts : sets (sets (sets lent 0 (altered (samplesOf (fresh band) idleBits) ds)) 96 (altered (samplesOf begun (charactersBits cs)) (drop 96 ds)))
+      (96 + 320 * length cs) (altered (samplesOf ended idleBits) (drop (96 + 320 * length cs) ds))
+      ≡ sets lent 0 (recordedOf band cs ds)
+  all-parts =
+      sym
+      (sets-parts (samplesOf (fresh band) idleBits) (samplesOf begun (charactersBits cs)) (samplesOf ended idleBits) ds lent (320 * length cs)
+      (length-bits t 0 idleBits) (length-bits t (begun .phase) (charactersBits cs) ∙ characters-count cs))
+      ∙ ap (λ (xs : List ℤ). sets lent 0 (altered xs ds))
+      (sym (send-bits-append t 0 idleBits (charactersBits cs ++ idleBits)
+      ∙ ap (λ (xs : List ℤ). sendBits t 0 idleBits ++ xs) (send-bits-append t (phaseBits t 0 idleBits) (charactersBits cs) idleBits)))
+
+  pub recorded-length : length (recordedOf band cs ds) ≡ samplesFor (length cs)
+  recorded-length =
+      length-altered (sendBits t 0 (idleBits ++ (charactersBits cs ++ idleBits))) ds
+      ∙ length-bits t 0 (idleBits ++ (charactersBits cs ++ idleBits))
+      ∙ omega (arith, length-append (charactersBits cs) idleBits, length-characters cs)

@@ -1,0 +1,82 @@
+// A message sent, disturbed and read back in one call: the promise, met by code. What is read is what was sent, for every message
+// of at most 100 bytes, every disturbance of at most 100 at each sample, and every size of the blocks.
+ghost use mathlib.Core.Path.{_≡_};
+ghost use Prim.Native.Nat.{_≤_};
+ghost use Rattle.calls.specs.Outcome.{outcome};
+ghost use Rattle.loopback.specs.Loopback.{isSize, isRoom, refusalOf, loopbackOf};
+
+mod receive;
+mod send;
+
+use calls::Answer;
+
+// Sends leader, characters and trailer in a band, adds the numbers of `disturbance` sample by sample, and reads the result in
+// blocks of `size` through the receiver's second entry. The samples as they were read and the events go to the caller's buffers.
+pub fn loopback(
+    band: u8,
+    characters: &[u8],
+    disturbance: &[i16],
+    size: usize,
+    samples: &mut [i16],
+    events: &mut [u16],
+) -> Answer
+    ensures { λ r. ⌜ outcome r (now (samples .exit)) (now (events .exit))
+        ≡ loopbackOf band (now (characters .entry)) (now (disturbance .entry)) size (now (samples .entry)) (now (events .entry)) ⌝ }
+{
+    let number = refusal(
+        band,
+        characters.len(),
+        disturbance,
+        size,
+        samples.len(),
+        events.len(),
+    );
+    if number != 0 {
+        return Answer { number, count: 0 };
+    }
+    let end = send::send(band, characters, disturbance, samples);
+    let count = receive::receive(band, &samples[..end], size, events);
+    Answer { number: 0, count }
+}
+
+// The number of the first reason to refuse, or 0.
+fn refusal(
+    band: u8,
+    characters: usize,
+    disturbance: &[i16],
+    size: usize,
+    samples: usize,
+    events: usize,
+) -> u8
+    ensures { λ r. ⌜ r ≡ refusalOf band characters (now (disturbance .entry)) size samples events ⌝ }
+{
+    if !tones::is_band(band) {
+        return 1;
+    }
+    if !is_size(characters, size) {
+        return 3;
+    }
+    if !tones::are_between(disturbance, -100, 100) {
+        return 5;
+    }
+    if !is_room(characters, disturbance.len(), samples, events) {
+        return 4;
+    }
+    0
+}
+
+// At most 100 characters, and blocks of 1 to 16,384 samples.
+fn is_size(characters: usize, size: usize) -> bool
+    ensures { λ r. ⌜ r ≡ isSize characters size ⌝ }
+{
+    characters <= 100 && 1 <= size && size <= 16384
+}
+
+// A number for each sample, and a place for each sample and each event.
+fn is_room(characters: usize, disturbance: usize, samples: usize, events: usize) -> bool
+    requires { ⌜ characters ≤ 100 ⌝ }
+    ensures { λ r. ⌜ r ≡ isRoom characters disturbance samples events ⌝ }
+{
+    let n = 192 + 320 * characters;
+    n <= disturbance && n <= samples && characters <= events
+}
