@@ -3,8 +3,8 @@
 -- Assumes nothing.
 use mathlib.Core.Path.{_≡_, refl, sym, ap, ap₂, _∙_, subst}
 use mathlib.Core.Bool.{true}
-use mathlib.Core.List.{List, [], _∷_, _++_, map, append-nil}
-use Prim.Native.Nat.{ℕ, zero, suc, _≤_, _<_}
+use mathlib.Core.List.{List, [], _∷_, _++_, append-nil}
+use Prim.Native.Nat.{ℕ, suc, _≤_, _<_}
 use native.Mathlib.Omega.{arith}
 use lib.IntN.{ℤ}
 use lib.ListN.{length, getD}
@@ -20,7 +20,7 @@ use Rattle.receiver.specs.Step.{eventsAfter}
 use Rattle.receiver.specs.Calls.{fresh}
 use Rattle.receiver.specs.Lists.{inPlace}
 use Rattle.receiver.proofs.Lists.{one-reading}
-use Rattle.promise.specs.Recordings.{AreBytes, Recording, Transmission, characters}
+use Rattle.promise.specs.Recordings.{AreBytes, Recording, Transmission}
 use Rattle.promise.specs.Demand.{disturbance}
 use Rattle.promise.specs.Possible.{concat, sendingCalls, IsText, Possible}
 use Rattle.promise.proofs.Promise.{sent-samples, demand-3}

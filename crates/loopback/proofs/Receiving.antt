@@ -1,7 +1,7 @@
 -- A list of samples that is read block by block: what holds on the way, and what is left at the end. From how a run over samples falls
 -- into two parts, and the filling of the list of events.
 -- Assumes nothing.
-use mathlib.Core.Path.{_≡_, refl, sym, ap, _∙_, subst}
+use mathlib.Core.Path.{_≡_, sym, ap, _∙_}
 use mathlib.Core.Bool.{true}
 use mathlib.Core.List.{List, [], _++_}
 use Prim.Native.Nat.{ℕ, _+_, _-_, _≤_}

@@ -1,6 +1,6 @@
 -- The cases of the refusal, each under the tests that lead to it, and what is known when there is none.
 -- Assumes nothing.
-use mathlib.Core.Path.{_≡_, refl, sym, ap, _∙_}
+use mathlib.Core.Path.{_≡_, refl, _∙_}
 use mathlib.Core.Bool.{Bool, true, false, _&&_}
 use mathlib.Core.List.{List, _++_}
 use mathlib.Mathlib.Data.Bool.Basic.{and-elim-left, and-elim-right}

@@ -4,10 +4,9 @@
 use mathlib.Core.Path.{_≡_, refl, sym, ap, _∙_, subst}
 use mathlib.Core.Bool.{true}
 use mathlib.Core.List.{List, [], _∷_, _++_}
-use mathlib.Mathlib.Data.Bool.Basic.{and-elim-left, and-elim-right, and-intro}
-use Prim.Native.Nat.{ℕ, _+_, _*_, _≤_}
+use mathlib.Mathlib.Data.Bool.Basic.{and-elim-left, and-elim-right}
+use Prim.Native.Nat.{ℕ, _*_, _≤_}
 use native.Mathlib.Omega.{arith}
-use lib.Dec.{lit<}
 use lib.IntN.{ℤ, pos}
 use lib.ListN.{length, replicate, length-replicate}
 use Rattle.integers.specs.All.{All, none, more}
@@ -16,9 +15,9 @@ use Rattle.integers.proofs.Near.{near-bounded}
 use Rattle.integers.proofs.Sums.{bounded-append, bounded-zeros}
 use Rattle.calls.specs.Outcome.{isAccepted}
 use Rattle.calls.specs.Runs.{after}
-use Rattle.calls.specs.Lists.{joined, acceptedCalls, each}
+use Rattle.calls.specs.Lists.{acceptedCalls, each}
 use Rattle.calls.proofs.Lists.{joined-each, Accepts, all-accepted}
-use Rattle.tones.specs.Bands.{isBand, tonesOf}
+use Rattle.tones.specs.Bands.{isBand}
 use Rattle.tones.specs.Samples.{areSamples}
 use Rattle.tones.proofs.Samples.{samples-append, bounded-samples}
 use Rattle.transmitter.specs.declared.Transmitter.{Transmitter}
@@ -34,9 +33,9 @@ use Rattle.receiver.specs.Lists as reading
 use Rattle.receiver.proofs.Ranges as receiver-ranges
 use Rattle.receiver.proofs.Calls.{block-0}
 use Rattle.receiver.proofs.Lists.{one-reading}
-use Rattle.promise.specs.Recordings.{AreBytes, bytesOf, charactersSent, EndsSending, IsSending, trailer, text, leader, silence, Recording, Transmission, characters}
+use Rattle.promise.specs.Recordings.{AreBytes, bytesOf, charactersSent, EndsSending, IsSending, trailer, text, leader, silence, Recording, characters}
 use Rattle.promise.specs.Demand.{disturbance}
-use Rattle.promise.specs.Possible.{concat, endingCalls, sendingCalls, blockCalls, IsText, Possible, NotVacuous}
+use Rattle.promise.specs.Possible.{concat, endingCalls, sendingCalls, blockCalls, IsText, NotVacuous}
 use Rattle.promise.proofs.Promise.{recording-near}
 
 -- ---- sending

@@ -3,10 +3,10 @@
 use mathlib.Core.Path.{_≡_, refl, sym, ap, _∙_, subst}
 use mathlib.Core.List.{List, [], _∷_, _++_, append-assoc}
 use Prim.Native.Nat.{ℕ}
-use lib.IntN.{ℤ, pos}
+use lib.IntN.{ℤ}
 use Rattle.integers.specs.Near.{Near}
 use Rattle.integers.proofs.Near.{near-self, near-append, near-altered}
-use Rattle.calls.specs.Lists.{joined, acceptedCalls, each}
+use Rattle.calls.specs.Lists.{acceptedCalls, each}
 use Rattle.calls.proofs.Lists.{joined-each}
 use Rattle.tones.specs.declared.Tones.{Tones}
 use Rattle.tones.specs.Bands.{tonesOf}
@@ -22,7 +22,7 @@ use Rattle.margin.specs.Windows.{Margins}
 use Rattle.margin.proofs.Bands.{margins}
 use Rattle.promise.specs.Recordings as recordings
 use Rattle.promise.specs.Recordings.{AreBytes, bytesOf, charactersSent, EndsSending, IsSending, trailer, text, leader, silence, Recording, Transmission, characters, events}
-use Rattle.promise.specs.Demand.{disturbance, ReadAsSent, Demand3}
+use Rattle.promise.specs.Demand.{ReadAsSent, Demand3}
 use Rattle.promise.proofs.Recording.{recorded}
 
 -- ---- the bits of a sending

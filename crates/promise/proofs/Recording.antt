@@ -2,15 +2,15 @@
 -- the characters. Each lemma goes from the phase that it names to the end.
 -- Assumes nothing.
 use mathlib.Core.Path.{_≡_, refl, sym, ap, _∙_, subst}
-use mathlib.Core.Bool.{Bool, true, false, cond}
+use mathlib.Core.Bool.{Bool, true, false}
 use mathlib.Core.List.{List, [], _∷_, _++_, append-assoc}
 use mathlib.Core.Logic.{_⊎_, inl, inr, ⊎-elim}
-use Prim.Native.Nat.{ℕ, zero, suc, _+_, _*_, _-_, _≤_, _<_, min}
+use Prim.Native.Nat.{ℕ, zero, suc, _+_, _*_, _≤_, _<_, min}
 use native.Mathlib.Decide.{decLe, ℕ-discrete}
 use native.Mathlib.Omega.{arith}
 use lib.IntN.{ℤ, pos}
-use lib.ListN.{length, take, drop, replicate, length-append, length-drop, length-replicate, replicate-append-replicate}
-use lib.Seq.{drop-cons, drop-at, drop-append-add}
+use lib.ListN.{length, take, drop, length-append, length-drop, length-replicate}
+use lib.Seq.{drop-cons, drop-at}
 use Rattle.integers.specs.All.{none, more}
 use Rattle.integers.specs.Near.{Near}
 use Rattle.integers.proofs.Near.{near-length}
@@ -18,14 +18,13 @@ use Rattle.calls.specs.Runs.{gives}
 use Rattle.sine.specs.Wave.{wave}
 use Rattle.sine.proofs.Wave.{length-wave}
 use Rattle.tones.specs.declared.Tones.{Tones}
-use Rattle.tones.specs.Bands.{stepOf}
 use Rattle.transmitter.specs.Samples.{send, bitSteps, sendBits, idleBits, dataBits, charBits, charactersBits}
 use Rattle.transmitter.proofs.Laws.{bitAt, length-char}
 use Rattle.receiver.specs.declared.Decision.{Decision}
 use Rattle.receiver.specs.declared.Stage.the-variants.{Searching, Waiting}
 use Rattle.receiver.specs.Energy.{decisionOf}
 use Rattle.receiver.specs.Step.{Control, quiet, runAfter, nextOf}
-use Rattle.receiver.specs.Windows.{decisions, reports}
+use Rattle.receiver.specs.Windows.{reports}
 use Rattle.receiver.proofs.Windows.{decisions-none}
 use Rattle.receiver.proofs.Rules.{search-found, search-short, search-mark, wait-taken, start-weak}
 use Rattle.margin.specs.Windows.{fading, Margins}

@@ -2,13 +2,13 @@
 -- in them. From the margins.
 -- Assumes nothing.
 use mathlib.Core.Path.{_≡_, sym, ap, ap₂, _∙_, subst}
-use mathlib.Core.Bool.{true, false}
+use mathlib.Core.Bool.{true}
 use mathlib.Core.List.{List, [], _∷_, _++_, append-assoc, append-nil}
 use Prim.Native.Nat.{ℕ, suc, _+_, _*_, _-_, _%_, _≤_, _<_}
 use native.Mathlib.Omega.{arith}
 use lib.IntN.{ℤ, pos}
-use lib.ListN.{length, take, drop, replicate, length-append, length-drop, length-replicate, replicate-append-replicate}
-use lib.Seq.{take-at, take-all, drop-at, drop-append-le, drop-append-add, take-append-le, take-append-add}
+use lib.ListN.{length, take, drop, length-append, length-drop, length-replicate, replicate-append-replicate}
+use lib.Seq.{take-all, drop-at, drop-append-le, drop-append-add, take-append-le, take-append-add}
 use Rattle.integers.specs.Near.{Near}
 use Rattle.sine.specs.Wave.{wave}
 use Rattle.sine.proofs.Wave.{length-wave}
@@ -19,7 +19,7 @@ use Rattle.transmitter.proofs.Laws.{send-bits-append, send-bit, phase-bit}
 use Rattle.receiver.specs.declared.Decision.{Decision}
 use Rattle.receiver.specs.Energy.{decisionOf}
 use Rattle.receiver.specs.Step.{Control}
-use Rattle.margin.specs.Windows.{across, fading, isSpace, Margins}
+use Rattle.margin.specs.Windows.{across, Margins}
 use Rattle.promise.specs.Recordings.{silence}
 use Rattle.promise.proofs.Steps.{reads, as-read, Moves}
 use Rattle.promise.proofs.Along.{Gives, along}

@@ -1,8 +1,8 @@
 -- `loopback::loopback` meets its contract: nothing stands against the calls, and by the promise the events are the characters.
 -- Assumes nothing.
-use mathlib.Core.Path.{_≡_, refl, sym, ap, _∙_}
+use mathlib.Core.Path.{_≡_, sym, ap, _∙_}
 use mathlib.Core.List.{List, _++_}
-use Prim.Native.Nat.{ℕ, _≤_}
+use Prim.Native.Nat.{ℕ}
 use native.Mathlib.Omega.{arith}
 use borrow.Author.Needs.{needs}
 use lib.IntN.{ℤ}
@@ -17,7 +17,7 @@ use Rattle.tones.proofs.Samples.{between-bound}
 use Rattle.receiver.specs.Step.{eventsAfter}
 use Rattle.receiver.specs.Calls.{fresh}
 use Rattle.promise.specs.Recordings.{AreBytes}
-use Rattle.loopback.specs.Loopback.{samplesFor, recordedOf}
+use Rattle.loopback.specs.Loopback.{recordedOf}
 use Rattle.loopback.proofs.Refusals.{Allowed, allowed, loopback-refused, loopback-accepted}
 use Rattle.loopback.proofs.Sending.{recorded-length}
 use Rattle.loopback.proofs.Promised.{are-bytes, recorded-range, read-back}
