@@ -68,7 +68,8 @@ slice-aggregate-put : tie.Need-slice-aggregate-put
 slice-aggregate-put c = counted (c .before .before .before .before .before) ∙ sym (ap length (events (c .before .before .before .before .before)))
 
 put-requires : tie.Need-put-requires
-put-requires c κs = rw (events (c .before .before .before .before .before)) (c .before .before .before .before .before .before .before .before .pre .1 .1)
+put-requires c κs =
+    omega (arith, ap length (events (c .before .before .before .before .before)), c .before .before .before .before .before .before .before .before .pre .1 .1)
 
 add-t17 : tie.Need-add-t17
 add-t17 c = omega (arith, counted (c .before .before .before .before .before .before .before .before), c .before .before .before .before .before .before .before .before .before .before .before .pre .1 .1)
