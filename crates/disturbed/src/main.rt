@@ -1,0 +1,69 @@
+// Sends the message on standard input and reads it back under disturbances that are as large as the promise allows: five of them, in
+// both bands, in blocks of four sizes. Each run prints a line: its band, its disturbance, the size of its blocks, and what was read.
+// `loopback` is proved to give the message in all of them; here it is run.
+mod disturbance;
+mod run;
+
+use crate::disturbance::LONGEST;
+use crate::disturbance::random_signs;
+use crate::disturbance::signs;
+use crate::run::run;
+use libc::STDIN_FILENO;
+use tones::Tones;
+
+fn main() {
+    // One byte more than a call takes, so that the call itself refuses a message that is too long.
+    let mut bytes = [0u8; 101];
+    let n = io::read_full(STDIN_FILENO, &mut bytes);
+    in_band(1, &bytes[..n]);
+    in_band(2, &bytes[..n]);
+    refused(&bytes[..n]);
+}
+
+// Every disturbance in a band. The first three are the signs of the message itself, sent with other tones: with space for both bits,
+// which helps space against every mark; with mark for both, which helps mark against every space; and with the two exchanged, which
+// helps the wrong one in every bit.
+fn in_band(band: u8, message: &[u8]) {
+    let own = tones::tones_of(band);
+    let exchanged = Tones {
+        space: own.mark,
+        mark: own.space,
+    };
+    let space = signs(both(own.space), 0, message);
+    in_blocks(band, message, b"tone of space", &space);
+    let mark = signs(both(own.mark), 0, message);
+    in_blocks(band, message, b"tone of mark", &mark);
+    let wrong = signs(exchanged, 0, message);
+    in_blocks(band, message, b"tone of the wrong bit", &wrong);
+    // Half a cycle to a sample, from the top of the sine on.
+    let turns = signs(both(960), 480, message);
+    in_blocks(band, message, b"plus and minus in turn", &turns);
+    let random = random_signs();
+    in_blocks(band, message, b"random signs", &random);
+}
+
+// One tone for both bits.
+fn both(step: u16) -> Tones {
+    Tones {
+        space: step,
+        mark: step,
+    }
+}
+
+// One sample at a time; one sample less than a bit; a character at a time; as many as a block can have.
+fn in_blocks(band: u8, message: &[u8], name: &[u8], disturbance: &[i16]) {
+    run(band, message, name, disturbance, 1);
+    run(band, message, name, disturbance, 31);
+    run(band, message, name, disturbance, 320);
+    run(band, message, name, disturbance, 16384);
+}
+
+// A disturbance that is too large at one sample, a band that there is not, and blocks of no samples.
+fn refused(message: &[u8]) {
+    let mut large = [100i16; LONGEST];
+    large[0] = 101;
+    let nothing = [0i16; LONGEST];
+    run(1, message, b"one number 101", &large, 320);
+    run(3, message, b"nothing added", &nothing, 320);
+    run(1, message, b"nothing added", &nothing, 0);
+}

@@ -1,0 +1,50 @@
+// One run of `loopback`, and its line.
+use crate::disturbance::LONGEST;
+use libc::STDOUT_FILENO;
+
+pub(crate) fn run(band: u8, message: &[u8], name: &[u8], disturbance: &[i16], size: usize) {
+    let mut samples = [0i16; LONGEST];
+    let mut events = [0u16; 100];
+    let answer = loopback::loopback(band, message, disturbance, size, &mut samples, &mut events);
+    print_call(band, name, size);
+    if answer.number == 0 {
+        io::write_all(STDOUT_FILENO, b"read ");
+        print_front(&events, answer.count);
+    } else {
+        io::write_all(STDOUT_FILENO, b"refused ");
+        io::print_decimal(STDOUT_FILENO, answer.number as u64);
+    }
+    io::write_all(STDOUT_FILENO, b"\n");
+}
+
+fn print_call(band: u8, name: &[u8], size: usize) {
+    io::write_all(STDOUT_FILENO, b"band ");
+    io::print_decimal(STDOUT_FILENO, band as u64);
+    io::write_all(STDOUT_FILENO, b", ");
+    io::write_all(STDOUT_FILENO, name);
+    io::write_all(STDOUT_FILENO, b", blocks of ");
+    io::print_decimal(STDOUT_FILENO, size as u64);
+    io::write_all(STDOUT_FILENO, b": ");
+}
+
+// The events at the front.
+fn print_front(events: &[u16], count: usize) {
+    let mut i: usize = 0;
+    while i < events.len() {
+        if i == count {
+            return;
+        }
+        print_event(events[i]);
+        i += 1;
+    }
+}
+
+// A character as it is, and a fault as a question mark.
+fn print_event(event: u16) {
+    if event < 256 {
+        let byte = [event as u8];
+        io::write_all(STDOUT_FILENO, &byte);
+    } else {
+        io::write_all(STDOUT_FILENO, b"?");
+    }
+}
