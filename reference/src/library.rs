@@ -44,6 +44,17 @@ extern "C" {
         events_len: usize,
         count: *mut usize,
     ) -> u8;
+    fn modem_receiver_block_lent(
+        band: *mut u8,
+        window: *mut i16,
+        run: *mut u8,
+        stage: *mut u8,
+        samples: *const i16,
+        samples_len: usize,
+        events: *mut u16,
+        events_len: usize,
+        count: *mut usize,
+    ) -> u8;
 }
 
 /// Set beforehand where the library is to store, to find out if it does not.
@@ -181,13 +192,33 @@ pub fn receiver_open(band: u8) -> (u8, Numbers) {
     (number, state)
 }
 
-pub fn receiver_block(mut state: Numbers, samples: &[i16], events: &mut [u16]) -> BlockAnswer {
+/// Either entry for a block: they take the same numbers and slices.
+type Block = unsafe extern "C" fn(
+    *mut u8,
+    *mut i16,
+    *mut u8,
+    *mut u8,
+    *const i16,
+    usize,
+    *mut u16,
+    usize,
+    *mut usize,
+) -> u8;
+
+/// Calls the entry, which stores the next state in place of the one before.
+/// Returns the number and the count.
+fn call_block(
+    block: Block,
+    state: &mut Numbers,
+    samples: &[i16],
+    events: &mut [u16],
+) -> (u8, usize) {
     let mut count = JUNK_COUNT;
     // SAFETY: the pointers are to distinct places borrowed for the call, each
     // length is that of the slice before it, and window and stage have as many
     // places as the function reads and stores.
     let number = unsafe {
-        modem_receiver_block(
+        block(
             &mut state.band,
             state.window.as_mut_ptr(),
             &mut state.run,
@@ -199,9 +230,24 @@ pub fn receiver_block(mut state: Numbers, samples: &[i16], events: &mut [u16]) -
             &mut count,
         )
     };
+    (number, count)
+}
+
+pub fn receiver_block(mut state: Numbers, samples: &[i16], events: &mut [u16]) -> BlockAnswer {
+    let (number, count) = call_block(modem_receiver_block, &mut state, samples, events);
     BlockAnswer {
         number,
         count,
         state,
     }
+}
+
+/// The second entry: the state is lent, and the next one is left in its place.
+/// Returns the number and the count.
+pub fn receiver_block_lent(
+    state: &mut Numbers,
+    samples: &[i16],
+    events: &mut [u16],
+) -> (u8, usize) {
+    call_block(modem_receiver_block_lent, state, samples, events)
 }

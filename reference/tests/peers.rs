@@ -4,7 +4,7 @@ mod common;
 
 use common::receiver::{assert_events, fresh, guarded, in_numbers};
 use common::recording::{around_0, as_events, disturbed, every_character, sending, surrounded};
-use common::states::{any_samples, good_state, hostile_state};
+use common::states::{any_block, good_state, hostile_state};
 use common::BANDS;
 use reference::library::Numbers;
 use reference::random::Random;
@@ -71,17 +71,7 @@ fn random_calls() {
         } else {
             good_state(&mut random)
         };
-        let band = if state.band == 2 { 2 } else { 1 };
-        let size = match random.below(200) {
-            0 => 16_383 + random.below(3),
-            _ => random.below(200),
-        };
-        let mut samples = any_samples(&mut random, band, size);
-        if size > 0 && random.below(8) == 0 {
-            let bad = [-32_768, -8_192, 8_192, 32_767];
-            samples[random.below(size)] = bad[random.below(bad.len())];
-        }
-        let places = (places_needed(size) + 1).saturating_sub(random.below(3));
+        let (samples, places) = any_block(&mut random, state.band);
         let (number, _, _) = compare(state, &samples, places);
         seen[usize::from(number)] += 1;
     }

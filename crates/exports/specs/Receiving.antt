@@ -6,7 +6,7 @@ use Prim.Native.Nat.{ℕ}
 use lib.Dec.{eqb}
 use lib.IntN.{ℤ}
 use lib.ListN.{getD}
-use Rattle.calls.specs.Outcome.{Outcome, isAccepted}
+use Rattle.calls.specs.Outcome.{Outcome}
 use Rattle.receiver.specs.declared.Receiver.{Receiver}
 use Rattle.receiver.specs.declared.Stage.{Stage}
 use Rattle.receiver.specs.declared.Stage.the-variants.{Searching, Waiting}
@@ -36,13 +36,17 @@ numbersOf s = stateNumbers (s .band) (s .window) (s .run) (stageNumbers (s .stag
 abbrev pub receiverOf : StateNumbers → Receiver
 receiverOf n = record { band = n .band; window = n .window; run = n .run; stage = stageOf (n .stage) }
 
--- a block call: an accepted one gives the numbers of the next state, and a refused one those that it was handed
+-- what a block call with this number stores: the numbers of the next state if it is accepted, and those that it was handed if not
+abbrev pub nextNumbers : ℕ → Receiver → StateNumbers → StateNumbers
+nextNumbers number next n = cond (eqb number 0) (numbersOf next) n
+
+-- a block call on the numbers of a state
 abbrev pub blockNumbers : StateNumbers → List ℤ → List ℕ → Outcome StateNumbers ℕ
 blockNumbers n xs lent =
     let o : Outcome Receiver ℕ = blockOf (receiverOf n) xs lent in
     record {
       number = o .number;
       count = o .count;
-      state = cond (isAccepted o) (numbersOf (o .state)) n;
+      state = nextNumbers (o .number) (o .state) n;
       lent = o .lent;
     }

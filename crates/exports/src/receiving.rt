@@ -3,7 +3,7 @@ ghost use mathlib.Core.Path.{_≡_};
 ghost use Rattle.calls.specs.Outcome.{outcome};
 ghost use Rattle.receiver.specs.Calls.{openOf};
 ghost use Rattle.exports.specs.Numbers.{answer};
-ghost use Rattle.exports.specs.Receiving.{stageOf, stageNumbers, stateNumbers, numbersOf, blockNumbers};
+ghost use Rattle.exports.specs.Receiving.{stageOf, stageNumbers, stateNumbers, numbersOf, receiverOf, nextNumbers, blockNumbers};
 use receiver::Reading;
 use receiver::Receiver;
 use receiver::Stage;
@@ -41,13 +41,54 @@ pub extern "C" fn modem_receiver_block(
     ensures { λ r. ⌜ outcome (answer r (now (count .exit))) (stateNumbers (now (band .exit)) (now (window .exit)) (now (run .exit)) (now (stage .exit))) (now (events .exit))
         ≡ blockNumbers (stateNumbers (now (band .entry)) (now (window .entry)) (now (run .entry)) (now (stage .entry))) (now (samples .entry)) (now (events .entry)) ⌝ }
 {
-    let receiver = Receiver {
-        band: *band,
-        window: *window,
-        run: *run,
-        stage: stage_of(*stage),
-    };
+    let receiver = receiver_of(*band, *window, *run, *stage);
     let reading = receiver.block(samples, events);
+    store_reading(reading, band, window, run, stage, count)
+}
+
+// The same call through the receiver's second entry, to which the state is lent.
+#[no_mangle]
+pub extern "C" fn modem_receiver_block_lent(
+    band: &mut u8,
+    window: &mut [i16; 32],
+    run: &mut u8,
+    stage: &mut [u8; 4],
+    samples: &[i16],
+    events: &mut [u16],
+    count: &mut usize,
+) -> u8
+    ensures { λ r. ⌜ outcome (answer r (now (count .exit))) (stateNumbers (now (band .exit)) (now (window .exit)) (now (run .exit)) (now (stage .exit))) (now (events .exit))
+        ≡ blockNumbers (stateNumbers (now (band .entry)) (now (window .entry)) (now (run .entry)) (now (stage .entry))) (now (samples .entry)) (now (events .entry)) ⌝ }
+{
+    let state = receiver_of(*band, *window, *run, *stage);
+    let read = lent::block_by_value(state, samples, events);
+    store_reading(read, band, window, run, stage, count)
+}
+
+fn receiver_of(band: u8, window: [i16; 32], run: u8, stage: [u8; 4]) -> Receiver
+    ensures { λ r. ⌜ r ≡ receiverOf (stateNumbers band window run stage) ⌝ }
+{
+    Receiver {
+        band,
+        window,
+        run,
+        stage: stage_of(stage),
+    }
+}
+
+// Stores the count and, if the call was accepted, the next state, and gives the number.
+fn store_reading(
+    reading: Reading,
+    band: &mut u8,
+    window: &mut [i16; 32],
+    run: &mut u8,
+    stage: &mut [u8; 4],
+    count: &mut usize,
+) -> u8
+    ensures { λ r. ⌜ (answer r (now (count .exit)) ≡ reading .answer)
+        × (stateNumbers (now (band .exit)) (now (window .exit)) (now (run .exit)) (now (stage .exit))
+        ≡ nextNumbers (reading .answer .number) (reading .receiver) (stateNumbers (now (band .entry)) (now (window .entry)) (now (run .entry)) (now (stage .entry)))) ⌝ }
+{
     let a = reading.answer;
     let next = reading.receiver;
     *count = a.count;

@@ -1,12 +1,13 @@
 //! What the test files share: one call made on either side, and compared. This
-//! file has the transmitter, `receiver` the receiver, `recording` what it reads
-//! and `states` what it goes on from.
+//! file has the transmitter, `receiver` the receiver, `recording` what it reads,
+//! `states` what it goes on from and `refused` what it refuses in between.
 
 // Each test file uses a part of this.
 #![allow(dead_code)]
 
 pub mod receiver;
 pub mod recording;
+pub mod refused;
 pub mod states;
 
 use reference::library;

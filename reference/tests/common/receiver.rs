@@ -72,19 +72,41 @@ pub fn in_numbers(
     }
 }
 
-fn answer(side: Side, state: Numbers, samples: &[i16], events: &mut [u16]) -> BlockAnswer {
-    match side {
-        Side::Reference => in_numbers(receiver::block, state, samples, events),
-        Side::Library => library::receiver_block(state, samples, events),
-    }
+/// Who answers a block call: the reference, or the library through one of its
+/// two entries.
+#[derive(Clone, Copy, Debug)]
+pub enum Entry {
+    Reference,
+    ByValue,
+    Lent,
 }
 
-/// Makes the call with `length` lent places, and checks what holds of every
-/// call: the places not covered by the count keep their fill, and a refusal
-/// leaves the state with count 0.
-pub fn block(side: Side, state: Numbers, samples: &[i16], length: usize) -> Reading {
-    let call = |samples: &[i16], events: &mut [u16]| answer(side, state, samples, events);
-    guarded(call, state, samples, length, || format!("{side:?}"))
+/// The library's entries.
+pub const ENTRIES: [Entry; 2] = [Entry::ByValue, Entry::Lent];
+
+impl Entry {
+    fn answer(self, mut state: Numbers, samples: &[i16], events: &mut [u16]) -> BlockAnswer {
+        match self {
+            Entry::Reference => in_numbers(receiver::block, state, samples, events),
+            Entry::ByValue => library::receiver_block(state, samples, events),
+            Entry::Lent => {
+                let (number, count) = library::receiver_block_lent(&mut state, samples, events);
+                BlockAnswer {
+                    number,
+                    count,
+                    state,
+                }
+            }
+        }
+    }
+
+    /// Makes the call with `length` lent places, and checks what holds of every
+    /// call: the places not covered by the count keep their fill, and a refusal
+    /// leaves the state with count 0.
+    fn block(self, state: Numbers, samples: &[i16], length: usize) -> Reading {
+        let call = |samples: &[i16], events: &mut [u16]| self.answer(state, samples, events);
+        guarded(call, state, samples, length, || format!("{self:?}"))
+    }
 }
 
 /// The same for any function that answers such a call.
@@ -123,36 +145,63 @@ fn told(state: Numbers, samples: &[i16], length: usize) -> String {
     format!("{count} samples from {state:?} into {length} places")
 }
 
-/// The library must answer the call as the reference does, in every place.
+/// Each entry must answer the call as the reference does, in every place.
+pub fn compare_through<const N: usize>(
+    entries: [Entry; N],
+    state: Numbers,
+    samples: &[i16],
+    length: usize,
+) -> [Reading; N] {
+    let expected = Entry::Reference.block(state, samples, length);
+    entries.map(|entry| {
+        let found = entry.block(state, samples, length);
+        let what = || format!("{entry:?}: {}", told(state, samples, length));
+        assert_eq!(found.answer, expected.answer, "{}", what());
+        assert_eq!(found.places, expected.places, "{}", what());
+        found
+    })
+}
+
+/// Both entries must answer as the reference does. What is returned, and with
+/// it the state that is passed on, is from the lent entry.
 pub fn compare(state: Numbers, samples: &[i16], length: usize) -> Reading {
-    let expected = block(Side::Reference, state, samples, length);
-    let found = block(Side::Library, state, samples, length);
-    let what = || told(state, samples, length);
-    assert_eq!(found.answer, expected.answer, "{}", what());
-    assert_eq!(found.places, expected.places, "{}", what());
-    found
+    let [_, lent] = compare_through(ENTRIES, state, samples, length);
+    lent
 }
 
 /// The same into exactly the places needed. The call must be accepted.
 pub fn compare_accepted(state: Numbers, samples: &[i16]) -> Reading {
-    let length = places_needed(samples.len());
-    let found = compare(state, samples, length);
-    assert_eq!(found.answer.number, 0, "{}", told(state, samples, length));
-    found
+    accepted(compare(state, samples, places_needed(samples.len())))
 }
 
-/// The events of the blocks joined, and the state after the last one.
-pub fn read_on<'a>(
+/// The reading, which must be of an accepted call.
+pub fn accepted(reading: Reading) -> Reading {
+    assert_eq!(reading.answer.number, 0, "{:?}", reading.answer);
+    reading
+}
+
+/// The events of the blocks joined, and the state after the last one. Each
+/// block is read from the state that the one before it left.
+pub fn read_by<'a>(
     mut state: Numbers,
     blocks: impl IntoIterator<Item = &'a [i16]>,
+    mut read: impl FnMut(Numbers, &'a [i16]) -> Reading,
 ) -> (Vec<u16>, Numbers) {
     let mut events = Vec::new();
     for samples in blocks {
-        let reading = compare_accepted(state, samples);
+        let reading = read(state, samples);
         events.extend_from_slice(reading.events());
         state = reading.answer.state;
     }
     (events, state)
+}
+
+/// The same when every block must be accepted.
+pub fn read_on<'a>(
+    state: Numbers,
+    blocks: impl IntoIterator<Item = &'a [i16]>,
+) -> (Vec<u16>, Numbers) {
+    read_by(state, blocks, compare_accepted)
 }
 
 /// The events of a recording from the fresh state, in blocks of `size`.

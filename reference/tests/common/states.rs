@@ -64,6 +64,24 @@ pub fn any_samples(random: &mut Random, band: u8, count: usize) -> Vec<i16> {
     samples
 }
 
+/// A block of any samples, mostly a short one, and about the places that it
+/// needs. Now and then it is too long, a sample is out of range, or a place is
+/// missing. A band out of range is taken for 1.
+pub fn any_block(random: &mut Random, band: u8) -> (Vec<i16>, usize) {
+    let band = if band == 2 { 2 } else { 1 };
+    let size = match random.below(200) {
+        0 => 16_383 + random.below(3),
+        _ => random.below(200),
+    };
+    let mut samples = any_samples(random, band, size);
+    if size > 0 && random.below(8) == 0 {
+        let bad = [-32_768, -8_192, 8_192, 32_767];
+        samples[random.below(size)] = bad[random.below(bad.len())];
+    }
+    let places = (size / 48 + 2).saturating_sub(random.below(3));
+    (samples, places)
+}
+
 /// Any state in range, mostly waiting, its stage in any form.
 pub fn good_state(random: &mut Random) -> Numbers {
     let band = 1 + random.below(2) as u8;

@@ -1,0 +1,17 @@
+-- `exports::receiving::receiver_of` meets its contract.
+-- Assumes nothing.
+use mathlib.Core.Path.{ap}
+use Rattle.receiver.specs.declared.Stage.{Stage}
+use Rattle.exports.proofs.receiving.receiver_of.Statement.{statement}
+use Rattle.exports.proofs.receiving.receiver_of.Tie as tie
+
+stage-of-requires : tie.Need-stage-of-requires
+stage-of-requires c κs = tt
+
+returns : tie.Need-returns
+returns c =
+    let a = c .before .args in
+    ap (λ (s : Stage). record { band = a .band; window = a .window; run = a .run; stage = s }) (c .stage-of .ensures)
+
+pub receiver-of-spec : {M : Type 1} → statement M
+receiver-of-spec = tie.close (tie.spec stage-of-requires returns)
