@@ -1,5 +1,5 @@
 -- What the two walks of this crate share: structs of plain data by their machine values, slices, locals, a call of a function that
--- requires nothing and ensures one fact, and the way from a walk to the contract. All follows from the kit's rules.
+-- requires nothing and ensures one fact, and the way from a walk to the contract. All follows from the rules of the proof library.
 -- Assumes nothing.
 use mathlib.Core.Path.{_≡_, sym, subst}
 use mathlib.Core.List.{List, [], _∷_}

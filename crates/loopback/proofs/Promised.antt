@@ -1,7 +1,7 @@
 -- What the promise says of a loopback: read by the step rule, the disturbed samples give the characters. The sending and a reading of
 -- it through the second entry make a transmission, of which demand 3 speaks.
 -- Assumes nothing.
-use mathlib.Core.Path.{_≡_, refl, sym, ap, ap₂, _∙_, subst}
+use mathlib.Core.Path.{_≡_, refl, sym, ap, ap₂, _∙_}
 use mathlib.Core.Bool.{true}
 use mathlib.Core.List.{List, [], _∷_, _++_, append-nil}
 use Prim.Native.Nat.{ℕ, suc, _≤_, _<_}
@@ -11,6 +11,7 @@ use lib.ListN.{length, getD}
 use Rattle.integers.specs.All.{All, none, more}
 use Rattle.integers.specs.Near.{altered}
 use Rattle.integers.specs.Sums.{Bounded}
+use Rattle.calls.specs.Lists.{each}
 use Rattle.tones.specs.Bands.{isBand, tonesOf}
 use Rattle.tones.specs.Samples.{areSamples}
 use Rattle.transmitter.specs.Samples.{sendBits, idleBits, charactersBits}
@@ -20,9 +21,9 @@ use Rattle.receiver.specs.Step.{eventsAfter}
 use Rattle.receiver.specs.Calls.{fresh}
 use Rattle.receiver.specs.Lists.{inPlace}
 use Rattle.receiver.proofs.Lists.{one-reading}
-use Rattle.promise.specs.Recordings.{AreBytes, Recording, Transmission}
-use Rattle.promise.specs.Demand.{disturbance}
-use Rattle.promise.specs.Possible.{concat, sendingCalls, IsText, Possible}
+use Rattle.margin.specs.Windows.{disturbance}
+use Rattle.promise.specs.Recordings.{AreBytes, silence, Transmission}
+use Rattle.promise.specs.Possible.{Block, sendingCalls, IsText, Possible}
 use Rattle.promise.proofs.Promise.{sent-samples, demand-3}
 use Rattle.promise.proofs.Possible.{message-sent, is-sending, recorded-samples, not-vacuous}
 use Rattle.loopback.specs.Loopback.{recordedOf}
@@ -32,17 +33,17 @@ pub are-bytes : (cs : List ℕ) → ((i : ℕ) → getD cs i 0 < 256) → AreByt
 are-bytes [] h = none
 are-bytes (c ∷ cs) h = more (h 0) (are-bytes cs (λ i. h (suc i)))
 
--- each sample as a block
-blocks : List ℤ → List (List ℤ)
+-- each sample as a block, through the second entry
+blocks : List ℤ → List Block
 blocks [] = []
-blocks (x ∷ xs) = (x ∷ []) ∷ blocks xs
+blocks (x ∷ xs) = record { entry = inPlace; samples = x ∷ [] } ∷ blocks xs
 
-blocks-join : (xs : List ℤ) → concat (blocks xs) ≡ xs
+blocks-join : (xs : List ℤ) → each (λ (b : Block). b .samples) (blocks xs) ≡ xs
 unfolding blocks
 blocks-join [] = refl
 blocks-join (x ∷ xs) = ap (λ (l : List ℤ). x ∷ l) (blocks-join xs)
 
-blocks-short : (xs : List ℤ) → All (λ block. length block ≤ 16384) (blocks xs)
+blocks-short : (xs : List ℤ) → All (λ block. length (block .samples) ≤ 16384) (blocks xs)
 unfolding blocks
 blocks-short [] = none
 blocks-short (x ∷ xs) = let h : 1 ≤ 16384 = omega arith in more h (blocks-short xs)
@@ -54,7 +55,7 @@ module _ (band : ℕ) (known : isBand band ≡ true) (cs : List ℕ) (bytes : Ar
   is-text : All IsText texts
   is-text = more (record { bytes = bytes; few = few }) none
 
-  joined : concat texts ≡ cs
+  joined : each (λ text. text) texts ≡ cs
   joined = append-nil cs
 
   -- the sending by a leader, one characters call and a trailer
@@ -63,23 +64,19 @@ module _ (band : ℕ) (known : isBand band ≡ true) (cs : List ℕ) (bytes : Ar
       sent-samples band (sendingCalls texts) (is-sending band known texts is-text)
       ∙ ap (λ (l : List ℕ). sendBits (tonesOf band) 0 (idleBits ++ (charactersBits l ++ idleBits))) (message-sent band known texts is-text ∙ joined)
 
-  recording : Recording disturbance (sending.samplesWritten (transmitter.fresh band) (sendingCalls texts)) (recordedOf band cs ds)
-  recording =
-      record {
-        before = 0;
-        after = 0;
-        added = ds;
-        small = small;
-        sum = ap (λ (xs : List ℤ). altered xs ds) (sym (append-nil _ ∙ sent));
-      }
+  -- disturbed, without silence around it
+  sum : recordedOf band cs ds ≡ altered (silence 0 ++ (sending.samplesWritten (transmitter.fresh band) (sendingCalls texts) ++ silence 0)) ds
+  sum = ap (λ (xs : List ℤ). altered xs ds) (sym (append-nil _ ∙ sent))
 
   pub recorded-range : areSamples (recordedOf band cs ds) ≡ true
-  recorded-range = recorded-samples (transmitter.fresh band) (sendingCalls texts) (recordedOf band cs ds) recording
+  recorded-range =
+      recorded-samples (transmitter.fresh band) (sendingCalls texts) (recordedOf band cs ds)
+      (record { before = 0; after = 0; added = ds; small = small; sum = sum })
 
-  read : Possible inPlace band texts (blocks (recordedOf band cs ds))
+  read : Possible band texts (blocks (recordedOf band cs ds))
   read =
-      not-vacuous inPlace band known texts is-text (blocks (recordedOf band cs ds)) (blocks-short (recordedOf band cs ds))
-      (subst (Recording disturbance (sending.samplesWritten (transmitter.fresh band) (sendingCalls texts))) (sym (blocks-join (recordedOf band cs ds))) recording)
+      not-vacuous band known texts is-text 0 0 ds small (blocks (recordedOf band cs ds)) (blocks-short (recordedOf band cs ds))
+      (blocks-join (recordedOf band cs ds) ∙ sum)
 
   pub read-back : eventsAfter (fresh band) (recordedOf band cs ds) ≡ cs
   read-back =

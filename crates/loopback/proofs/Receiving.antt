@@ -21,18 +21,18 @@ use Rattle.receiver.proofs.Ranges.{state-kept}
 
 -- The samples xs are read from s on, and the events go to `lent`. Those before `at` are read: the state is r, and `now` holds `count`
 -- events.
-pub record Reading (s : Receiver) (xs : List ℤ) (lent : List ℕ) (r : Receiver) (at count : ℕ) (now : List ℕ) : Type 0 where
+pub record InBlocks (s : Receiver) (xs : List ℤ) (lent : List ℕ) (r : Receiver) (at count : ℕ) (now : List ℕ) : Type 0 where
   pub inside : at ≤ length xs
   pub kept : inRange r ≡ true
   pub counted : count + length (eventsAfter r (drop at xs)) ≡ length (eventsAfter s xs)
   pub filled : Filling lent 0 (eventsAfter s xs) now count (eventsAfter r (drop at xs))
 
 module _ (s : Receiver) (xs : List ℤ) (lent : List ℕ) where
-  pub reading-start : inRange s ≡ true → Reading s xs lent s 0 0 lent
+  pub reading-start : inRange s ≡ true → InBlocks s xs lent s 0 0 lent
   reading-start h =
       record { inside = omega arith; kept = h; counted = zero-add (length (eventsAfter s xs)); filled = filling-start lent 0 (eventsAfter s xs) }
 
-  module _ (r : Receiver) (at count : ℕ) (now : List ℕ) (d : Reading s xs lent r at count now) where
+  module _ (r : Receiver) (at count : ℕ) (now : List ℕ) (d : InBlocks s xs lent r at count now) where
     -- the block from `at` to `end`
     module _ (end : ℕ) (h : at ≤ end) (l : end ≤ length xs) where
       abbrev block : List ℤ
@@ -56,7 +56,7 @@ module _ (s : Receiver) (xs : List ℤ) (lent : List ℕ) where
       block-room room = omega (arith, shares, d .counted, d .filled .long)
 
       pub reading-more : areSamples xs ≡ true
-          → Reading s xs lent (stateAfter r block) end (count + length (eventsAfter r block)) (sets now count (eventsAfter r block))
+          → InBlocks s xs lent (stateAfter r block) end (count + length (eventsAfter r block)) (sets now count (eventsAfter r block))
       reading-more a =
           record {
             inside = l;

@@ -19,7 +19,7 @@ abbrev pub samplesFor : ℕ → ℕ
 samplesFor n = 192 + 320 * n
 
 -- each with the number at its place added
-abbrev pub recordedOf : ℕ → List ℕ → List ℤ → List ℤ
+abbrev pub recordedOf : (band : ℕ) (characters : List ℕ) (disturbance : List ℤ) → List ℤ
 recordedOf band characters disturbance = altered (sendBits (tonesOf band) 0 (idleBits ++ (charactersBits characters ++ idleBits))) disturbance
 
 -- at most 100 characters, and blocks of 1 to 16,384 samples
@@ -37,7 +37,7 @@ isRoom characters disturbance samples events =
 
 -- the number that is answered, after document 01's table: 1 no band, 3 over 100 characters or no size of a block, 5 some disturbance
 -- outside its range, 4 a list too short; the first that holds
-unfoldable pub refusalOf : ℕ → ℕ → List ℤ → ℕ → ℕ → ℕ → ℕ
+unfoldable pub refusalOf : (band characters : ℕ) (disturbance : List ℤ) (size samples events : ℕ) → ℕ
 refusalOf band characters disturbance size samples events =
     cond (not (isBand band)) 1
     (cond (not (isSize characters size)) 3
@@ -45,7 +45,7 @@ refusalOf band characters disturbance size samples events =
     (cond (not (isRoom characters (length disturbance) samples events)) 4 0)))
 
 -- the events are the characters, and the samples are left as they were read; the outcome's state is the samples' list
-unfoldable pub loopbackOf : ℕ → List ℕ → List ℤ → ℕ → List ℤ → List ℕ → Outcome (List ℤ) ℕ
+unfoldable pub loopbackOf : (band : ℕ) (characters : List ℕ) (disturbance : List ℤ) (size : ℕ) (samples : List ℤ) (events : List ℕ) → Outcome (List ℤ) ℕ
 loopbackOf band characters disturbance size samples events =
     let n : ℕ = refusalOf band (length characters) disturbance size (length samples) (length events) in
     let recorded : List ℤ = recordedOf band characters disturbance in

@@ -10,12 +10,9 @@ use Rattle.sine.specs.Sine.{S, half, nearest}
 use Rattle.tones.specs.declared.Tones.{Tones}
 use Rattle.tones.specs.Bands.{originate, answer, bands, isBand, tonesOf}
 use Rattle.tones.proofs.Laws.{tones-band, tones-else}
-use Rattle.margin.specs.Windows.{Margins}
+use Rattle.margin.specs.Windows.{disturbance, Margins}
 use Rattle.margin.proofs.Test.{test}
 use Rattle.margin.proofs.Phases.{margins-of}
-
-abbrev pub disturbance : ℕ
-disturbance = 100
 
 -- ---- the bands
 
@@ -50,23 +47,23 @@ margins band = go (isBand band) refl
 -- ---- the pairs of V.21
 
 -- 1,180 and 980 Hz
-abbrev pub low : Tones
-low = record { space = 236; mark = 196 }
+abbrev pub channel1 : Tones
+channel1 = record { space = 236; mark = 196 }
 
 -- 1,850 and 1,650 Hz
-abbrev pub high : Tones
-high = record { space = 370; mark = 330 }
+abbrev pub channel2 : Tones
+channel2 = record { space = 370; mark = 330 }
 
-low-passes : test disturbance low 64 15 ≡ true
+channel-1-passes : test disturbance channel1 64 15 ≡ true
 unfolding test S half nearest
-low-passes = refl
+channel-1-passes = refl
 
-pub v21-low : Margins disturbance low
-v21-low = margins-of disturbance low 64 15 refl low-passes refl refl
+pub v21-channel-1 : Margins disturbance channel1
+v21-channel-1 = margins-of disturbance channel1 64 15 refl channel-1-passes refl refl
 
-high-passes : test disturbance high 320 3 ≡ true
+channel-2-passes : test disturbance channel2 320 3 ≡ true
 unfolding test S half nearest
-high-passes = refl
+channel-2-passes = refl
 
-pub v21-high : Margins disturbance high
-v21-high = margins-of disturbance high 320 3 refl high-passes refl refl
+pub v21-channel-2 : Margins disturbance channel2
+v21-channel-2 = margins-of disturbance channel2 320 3 refl channel-2-passes refl refl

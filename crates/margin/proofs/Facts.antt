@@ -1,4 +1,4 @@
--- What a receiver decides in a disturbed window that passed the test, and which windows pass with a phase. From the bounds of the
+-- What a receiver decides in a disturbed window that passed the test, and which windows have passed when a phase has. From the bounds of the
 -- energies.
 -- Assumes nothing.
 use mathlib.Core.Path.{_≡_}
@@ -18,9 +18,9 @@ use Rattle.tones.specs.declared.Tones.{Tones}
 use Rattle.tones.specs.Bands.{stepOf}
 use Rattle.receiver.specs.Energy.{energyℕ, level, decisionOf}
 use Rattle.receiver.proofs.Energies.{decision-ℕ}
-use Rattle.margin.specs.Windows.{across, fading, isSpace}
+use Rattle.margin.specs.Windows.{across, markThenSilence, isSpace}
 use Rattle.margin.proofs.Energies.{Bounds, Within, bounds, within-bounds}
-use Rattle.margin.proofs.Test.{carrierSure, silenceSure, winsSure, readTests, readSure, Weights, weightsOf, windowSure, acrossSure, fadingSure, pairSure, bitSure, phaseSure}
+use Rattle.margin.proofs.Test.{carrierSure, silenceSure, winsSure, readTests, readSure, Weights, weightsOf, windowSure, acrossSure, silenceBehindSure, pairSure, bitSure, phaseSure}
 
 -- ---- two energies within their bounds
 
@@ -93,7 +93,7 @@ module _ (w : Weights) (t : Tones) (p : ℕ) (passed : phaseSure w t p ≡ true)
   bits = passesBelow (λ a. bitSure w t p a (wave 32 (stepOf t a) p)) 2
 
   abbrev fades : Bool
-  fades = fadingSure w (wave 32 (t .mark) p)
+  fades = silenceBehindSure w (wave 32 (t .mark) p)
 
   bits-passed : (a b : ℕ) → a < 2 → b < 2 → pairSure w t p a (wave 32 (stepOf t a) p) b ≡ true
   unfolding phaseSure bitSure
@@ -113,6 +113,6 @@ module _ (w : Weights) (t : Tones) (p : ℕ) (passed : phaseSure w t p ≡ true)
   unfolding pairSure acrossSure across
   across-passed a b = below-at (λ k. windowSure w (readSure (isSpace a) (isSpace b) k) (across t p a b k)) 32 (pair-passed a b)
 
-  pub fading-passed : (k : ℕ) → k < 16 → windowSure w (winsSure false) (fading t p k) ≡ true
-  unfolding phaseSure fadingSure fading
-  fading-passed = below-at (λ k. windowSure w (winsSure false) (fading t p k)) 16 (and-elim-right bits fades passed)
+  pub silence-behind-passed : (k : ℕ) → k < 16 → windowSure w (winsSure false) (markThenSilence t p k) ≡ true
+  unfolding phaseSure silenceBehindSure markThenSilence
+  silence-behind-passed = below-at (λ k. windowSure w (winsSure false) (markThenSilence t p k)) 16 (and-elim-right bits fades passed)

@@ -15,9 +15,9 @@ use Rattle.sine.specs.Wave.{wave}
 use Rattle.sine.proofs.Wave.{wave-same, wave-opposite}
 use Rattle.tones.specs.declared.Tones.{Tones}
 use Rattle.tones.specs.Bands.{stepOf}
-use Rattle.margin.specs.Windows.{isSpace}
+use Rattle.margin.specs.Windows.{phaseAfterBit, isSpace}
 use Rattle.margin.proofs.Energies.{Bounds, ToneWeights, bounds}
-use Rattle.margin.proofs.Test.{winsSure, readSure, Weights, windowSure, acrossSure, fadingSure, pairSure, bitSure, phaseSure}
+use Rattle.margin.proofs.Test.{winsSure, readSure, Weights, windowSure, acrossSure, silenceBehindSure, pairSure, bitSure, phaseSure}
 
 bounds-opposite : (w : ToneWeights) (sent : List ℤ) → bounds w (map negℤ sent) ≡ bounds w sent
 unfolding bounds
@@ -42,9 +42,9 @@ module _ (w : Weights) where
   across-opposite a b xs ys i =
       passesBelow (λ k. window-opposite (readSure a b k) (drop k xs) (take k ys) (map-drop negℤ k xs) (map-take negℤ k ys) i) 32
 
-  fading-opposite : (xs : List ℤ) → fadingSure w (map negℤ xs) ≡ fadingSure w xs
-  unfolding fadingSure
-  fading-opposite xs i =
+  silence-behind-opposite : (xs : List ℤ) → silenceBehindSure w (map negℤ xs) ≡ silenceBehindSure w xs
+  unfolding silenceBehindSure
+  silence-behind-opposite xs i =
       passesBelow (λ k. window-opposite (winsSure false) (drop k xs) (replicate k (pos 0)) (map-drop negℤ k xs) (map-replicate negℤ k (pos 0)) i) 16
 
   module _ (t : Tones) (p : ℕ) where
@@ -52,7 +52,7 @@ module _ (w : Weights) where
     unfolding pairSure
     pair-opposite a xs b =
         ap (acrossSure w (isSpace a) (isSpace b) (map negℤ xs)) (next-opposite (stepOf t b) p (32 * stepOf t a))
-        ∙ across-opposite (isSpace a) (isSpace b) xs (wave 32 (stepOf t b) ((p + 32 * stepOf t a) % 1920))
+        ∙ across-opposite (isSpace a) (isSpace b) xs (wave 32 (stepOf t b) (phaseAfterBit t p a))
 
     bit-opposite : (a : ℕ) → bitSure w t (p + 960) a (wave 32 (stepOf t a) (p + 960)) ≡ bitSure w t p a (wave 32 (stepOf t a) p)
     unfolding bitSure
@@ -64,4 +64,4 @@ module _ (w : Weights) where
     unfolding phaseSure
     phase-opposite =
         ap₂ (λ (x y : Bool). x && y) (λ i. passesBelow (λ a. bit-opposite a i) 2)
-        (ap (fadingSure w) (wave-opposite 32 (t .mark) p) ∙ fading-opposite (wave 32 (t .mark) p))
+        (ap (silenceBehindSure w) (wave-opposite 32 (t .mark) p) ∙ silence-behind-opposite (wave 32 (t .mark) p))

@@ -16,7 +16,7 @@ use Rattle.tones.specs.declared.Tones.{Tones}
 use Rattle.tones.specs.Bands.{stepOf}
 use Rattle.margin.specs.Windows.{across, isSpace, Margins}
 use Rattle.margin.proofs.Test.{silenceSure, readSure, Weights, weightsOf, windowSure, phaseSure, allSure, test}
-use Rattle.margin.proofs.Facts.{silence-decided, bit-decided, carrier-decided, earlier-decided, later-decided, same-decided, across-passed, fading-passed}
+use Rattle.margin.proofs.Facts.{silence-decided, bit-decided, carrier-decided, earlier-decided, later-decided, same-decided, across-passed, silence-behind-passed}
 use Rattle.margin.proofs.Opposite.{phase-opposite}
 
 same-bit : (b : Bool) → Bool·beq b b ≡ true
@@ -87,6 +87,6 @@ module _ (noise : ℕ) (t : Tones) (stride count : ℕ) (whole : stride * count 
           later = λ p begins a b k l h window near. later-decided noise t near (isSpace a) (isSpace b) k (two-bits p begins a b k h) l;
           steady = λ p begins a k h window near.
               same-decided noise t near (isSpace a) (isSpace a) k (two-bits p begins a a k h) (same-bit (isSpace a));
-          dying = λ p begins k h window near. bit-decided noise t near false (fading-passed w t p (all p begins) k (omega arith));
+          mark-then-silence = λ p begins k h window near. bit-decided noise t near false (silence-behind-passed w t p (all p begins) k (omega arith));
           silent = λ window near. silence-decided noise t near silence-passed;
         }

@@ -1,9 +1,10 @@
 -- The test that antt computes: in the windows of two successive bits, of a mark bit with silence behind it, and of silence, the
--- bounds of the two energies leave no doubt. What a loop shares, as waves and weights, is an argument: so it is computed once.
+-- bounds of the two energies decide. Waves and weights that a loop uses many times are passed as arguments, so that each is computed
+-- once.
 -- Assumes nothing.
 use mathlib.Core.Bool.{Bool, true, false, cond, _&&_, Bool·beq}
 use mathlib.Core.List.{List, [], _∷_, _++_}
-use Prim.Native.Nat.{ℕ, _+_, _*_, _%_, max}
+use Prim.Native.Nat.{ℕ, _*_, max}
 use lib.Dec.{leb, ltb}
 use lib.IntN.{ℤ, pos}
 use lib.ListN.{take, drop, replicate}
@@ -12,7 +13,7 @@ use Rattle.sine.specs.Wave.{wave}
 use Rattle.tones.specs.declared.Tones.{Tones}
 use Rattle.tones.specs.Bands.{stepOf}
 use Rattle.receiver.specs.Energy.{level}
-use Rattle.margin.specs.Windows.{isSpace}
+use Rattle.margin.specs.Windows.{phaseAfterBit, isSpace}
 use Rattle.margin.proofs.Energies.{Bounds, ToneWeights, toneWeights, bounds}
 
 -- ---- one window, by the bounds of the energies of space and mark
@@ -66,15 +67,15 @@ module _ (w : Weights) where
   acrossSure earlier later xs ys = passesBelow (λ k. windowSure (readSure earlier later k) (drop k xs ++ take k ys)) 32
 
   -- xs are the samples of a mark bit
-  unfoldable pub fadingSure : (xs : List ℤ) → Bool
+  unfoldable pub silenceBehindSure : (xs : List ℤ) → Bool
   unfolding windowSure winsSure
-  fadingSure xs = passesBelow (λ k. windowSure (winsSure false) (drop k xs ++ replicate k (pos 0))) 16
+  silenceBehindSure xs = passesBelow (λ k. windowSure (winsSure false) (drop k xs ++ replicate k (pos 0))) 16
 
   module _ (t : Tones) (p : ℕ) where
     -- the bit a, whose samples are xs, begins at the phase p, and the bit b follows
     unfoldable pub pairSure : (a : ℕ) (xs : List ℤ) (b : ℕ) → Bool
     unfolding acrossSure wave
-    pairSure a xs b = acrossSure (isSpace a) (isSpace b) xs (wave 32 (stepOf t b) ((p + 32 * stepOf t a) % 1920))
+    pairSure a xs b = acrossSure (isSpace a) (isSpace b) xs (wave 32 (stepOf t b) (phaseAfterBit t p a))
 
     -- both bits behind it
     unfoldable pub bitSure : (a : ℕ) (xs : List ℤ) → Bool
@@ -82,8 +83,8 @@ module _ (w : Weights) where
     bitSure a xs = passesBelow (pairSure a xs) 2
 
     unfoldable pub phaseSure : Bool
-    unfolding bitSure fadingSure wave
-    phaseSure = passesBelow (λ a. bitSure a (wave 32 (stepOf t a) p)) 2 && fadingSure (wave 32 (t .mark) p)
+    unfolding bitSure silenceBehindSure wave
+    phaseSure = passesBelow (λ a. bitSure a (wave 32 (stepOf t a) p)) 2 && silenceBehindSure (wave 32 (t .mark) p)
 
   -- ---- silence, and `count` phases that are `stride` apart
 

@@ -1,5 +1,5 @@
--- The windows of a sending, and what a receiver decides in them under every disturbance: the numbers behind document 01's
--- promise ("Whole recordings"). The definitions are ours.
+-- The windows of a sending, and what a receiver decides in them under every disturbance up to a bound: the numbers behind demand 3
+-- (document 01, "Whole recordings"). The definitions are ours.
 -- Assumes nothing.
 use mathlib.Core.Path.{_≡_}
 use mathlib.Core.Bool.{Bool, true, false}
@@ -13,13 +13,21 @@ use Rattle.tones.specs.declared.Tones.{Tones}
 use Rattle.tones.specs.Bands.{stepOf}
 use Rattle.receiver.specs.Energy.{decisionOf}
 
+-- the most that a sample is altered by, either way: document 01, "Whole recordings"
+abbrev pub disturbance : ℕ
+disturbance = 100
+
+-- the phase after a bit that begins at the phase p
+abbrev pub phaseAfterBit : Tones → ℕ → ℕ → ℕ
+phaseAfterBit t p bit = (p + 32 * stepOf t bit) % 1920
+
 -- the last 32 - k samples of the bit a, which begins at the phase p, and the first k of the bit b behind it
-unfoldable pub across : Tones → ℕ → ℕ → ℕ → ℕ → List ℤ
-across t p a b k = drop k (wave 32 (stepOf t a) p) ++ take k (wave 32 (stepOf t b) ((p + 32 * stepOf t a) % 1920))
+unfoldable pub across : (t : Tones) (p a b k : ℕ) → List ℤ
+across t p a b k = drop k (wave 32 (stepOf t a) p) ++ take k (wave 32 (stepOf t b) (phaseAfterBit t p a))
 
 -- the last 32 - k samples of a mark bit that begins at the phase p, and k silent ones behind it
-unfoldable pub fading : Tones → ℕ → ℕ → List ℤ
-fading t p k = drop k (wave 32 (t .mark) p) ++ replicate k (pos 0)
+unfoldable pub markThenSilence : (t : Tones) (p k : ℕ) → List ℤ
+markThenSilence t p k = drop k (wave 32 (t .mark) p) ++ replicate k (pos 0)
 
 -- the bit 0 is space, and every other number mark, as `stepOf` has it
 abbrev pub isSpace : ℕ → Bool
@@ -31,7 +39,7 @@ isSpace (suc bit) = false
 pub record Margins (noise : ℕ) (t : Tones) : Type 1 where
   pub Begins : ℕ → Type 0
   pub first-bit : Begins 0
-  pub next-bit : (p : ℕ) → Begins p → (bit : ℕ) → Begins ((p + 32 * stepOf t bit) % 1920)
+  pub next-bit : (p : ℕ) → Begins p → (bit : ℕ) → Begins (phaseAfterBit t p bit)
   -- the level is good in every window of two successive bits
   pub carrier : (p : ℕ) → Begins p → (a b k : ℕ) → k < 32 → (w : List ℤ) → Near noise (across t p a b k) w → decisionOf t w .good ≡ true
   -- the earlier bit is read up to 14 samples of the later one, the later from 19 on, and a bit that follows itself throughout
@@ -40,6 +48,6 @@ pub record Margins (noise : ℕ) (t : Tones) : Type 1 where
       → decisionOf t w .space ≡ isSpace b
   pub steady : (p : ℕ) → Begins p → (a k : ℕ) → k < 32 → (w : List ℤ) → Near noise (across t p a a k) w → decisionOf t w .space ≡ isSpace a
   -- space is not above mark while at most 15 silent samples have followed a mark bit
-  pub dying : (p : ℕ) → Begins p → (k : ℕ) → k ≤ 15 → (w : List ℤ) → Near noise (fading t p k) w → decisionOf t w .space ≡ false
+  pub mark-then-silence : (p : ℕ) → Begins p → (k : ℕ) → k ≤ 15 → (w : List ℤ) → Near noise (markThenSilence t p k) w → decisionOf t w .space ≡ false
   -- silence has no good level
   pub silent : (w : List ℤ) → Near noise (replicate 32 (pos 0)) w → decisionOf t w .good ≡ false

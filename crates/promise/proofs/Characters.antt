@@ -28,15 +28,15 @@ use Rattle.promise.proofs.Windows.{Read}
 
 -- With k samples of the next bit: the search goes on, or the stop slot of the character before is still to be taken; Y are the
 -- events behind that.
-pub data Resting (Y : List ℕ) (k : ℕ) : Control → List ℕ → Type 0 where
-  free : Resting Y k (at 32 Searching) Y
-  owing : (byte wait : ℕ) → 1 ≤ wait → wait + k ≤ 4 → Resting Y k (at 32 (Waiting wait 9 byte)) (byte ∷ Y)
+pub data BetweenCharacters (Y : List ℕ) (k : ℕ) : Control → List ℕ → Type 0 where
+  none-due : BetweenCharacters Y k (at 32 Searching) Y
+  stop-due : (byte wait : ℕ) → 1 ≤ wait → wait + k ≤ 4 → BetweenCharacters Y k (at 32 (Waiting wait 9 byte)) (byte ∷ Y)
 
-pub rests : (Y : List ℕ) (k : ℕ) (d : Decision) → d ≡ reads 1 → (s : Control) (X : List ℕ) → Resting Y k s X → Moves (Resting Y (suc k)) s d X
-rests Y k d e s X free = searches d e free
-rests Y k d e s X (owing byte zero a b) = absurd (omega arith)
-rests Y k d e s X (owing byte (suc zero) a b) = stops d e byte free
-rests Y k d e s X (owing byte (suc (suc wait)) a b) = waits d 32 (full d (ap (λ (x : Decision). x .good) e)) wait 9 byte (owing byte (suc wait) (omega arith) (omega arith))
+pub stays-between : (Y : List ℕ) (k : ℕ) (d : Decision) → d ≡ reads 1 → (s : Control) (X : List ℕ) → BetweenCharacters Y k s X → Moves (BetweenCharacters Y (suc k)) s d X
+stays-between Y k d e s X none-due = searches d e none-due
+stays-between Y k d e s X (stop-due byte zero a b) = absurd (omega arith)
+stays-between Y k d e s X (stop-due byte (suc zero) a b) = stops d e byte none-due
+stays-between Y k d e s X (stop-due byte (suc (suc wait)) a b) = waits d 32 (full d (ap (λ (x : Decision). x .good) e)) wait 9 byte (stop-due byte (suc wait) (omega arith) (omega arith))
 
 -- ---- the byte gathered
 
@@ -65,58 +65,58 @@ bitBefore c j = getD (1 ∷ charBits c) j 1
 
 -- What is read in the window with t samples of the character c: the mark before it, and bit m from 19 samples of it on, up to 14 of
 -- the next.
-record Heard (c t : ℕ) (d : Decision) : Type 0 where
+record DecidedAt (c t : ℕ) (d : Decision) : Type 0 where
   good : d .good ≡ true
-  lead : t ≤ 14 → d ≡ reads 1
-  held : (m : ℕ) → 19 + 32 * m ≤ t → t ≤ 46 + 32 * m → d ≡ reads (bitAt c m)
+  mark-before : t ≤ 14 → d ≡ reads 1
+  own-bit : (m : ℕ) → 19 + 32 * m ≤ t → t ≤ 46 + 32 * m → d ≡ reads (bitAt c m)
 
 module _ (c : ℕ) (d : Decision) where
-  hear-lead : (j k : ℕ) → Read (bitBefore c j) (bitAt c j) k d → 32 * j + k ≤ 14 → d ≡ reads 1
-  hear-lead zero k r h = r .earlier (omega arith)
-  hear-lead (suc j) k r h = absurd (omega arith)
+  decided-before : (j k : ℕ) → Read (bitBefore c j) (bitAt c j) k d → 32 * j + k ≤ 14 → d ≡ reads 1
+  decided-before zero k r h = r .earlier (omega arith)
+  decided-before (suc j) k r h = absurd (omega arith)
 
-  hear-held : (j k m : ℕ) → k < 32 → Read (bitBefore c j) (bitAt c j) k d → 19 + 32 * m ≤ 32 * j + k → 32 * j + k ≤ 46 + 32 * m → d ≡ reads (bitAt c m)
-  hear-held j k m l r h g = go j r h g (ℕ-discrete m j)
+  decided-own : (j k m : ℕ) → k < 32 → Read (bitBefore c j) (bitAt c j) k d → 19 + 32 * m ≤ 32 * j + k → 32 * j + k ≤ 46 + 32 * m → d ≡ reads (bitAt c m)
+  decided-own j k m l r h g = go j r h g (ℕ-discrete m j)
     where
       go : (j : ℕ) → Read (bitBefore c j) (bitAt c j) k d → 19 + 32 * m ≤ 32 * j + k → 32 * j + k ≤ 46 + 32 * m → Dec (m ≡ j) → d ≡ reads (bitAt c m)
       go j r h g (yes p) = rw p (r .later (omega arith))
       go zero r h g (no p) = absurd (omega arith)
       go (suc j) r h g (no p) = let e : m ≡ j = omega arith in rw e (r .earlier (omega arith))
 
-  hear : (j k : ℕ) → k < 32 → Read (bitBefore c j) (bitAt c j) k d → Heard c (32 * j + k) d
-  hear j k l r = record { good = r .good; lead = hear-lead j k r; held = λ m. hear-held j k m l r }
+  decided-at : (j k : ℕ) → k < 32 → Read (bitBefore c j) (bitAt c j) k d → DecidedAt c (32 * j + k) d
+  decided-at j k l r = record { good = r .good; mark-before = decided-before j k r; own-bit = λ m. decided-own j k m l r }
 
 -- The control before that window: X are the events still to come, and Y those behind this character.
 pub data Within (c : ℕ) (Y : List ℕ) (t : ℕ) : Control → List ℕ → Type 0 where
   -- its start is not yet found
-  before : {s : Control} {X : List ℕ} → t ≤ 19 → Resting (c ∷ Y) t s X → Within c Y t s X
+  before : {s : Control} {X : List ℕ} → t ≤ 19 → BetweenCharacters (c ∷ Y) t s X → Within c Y t s X
   -- slot m is to be taken at the window with wait + t - 1 samples
   reading : (wait m byte : ℕ) → 1 ≤ wait → m ≤ 9 → 32 + 32 * m ≤ wait + t → wait + t ≤ 36 + 32 * m → byte ≡ soFar c m
       → Within c Y t (at 32 (Waiting wait m byte)) (c ∷ Y)
   -- its event is given
   ended : 320 ≤ t → Within c Y t (at 32 Searching) Y
 
-module _ (c : ℕ) (small : c < 256) (Y : List ℕ) (t : ℕ) (d : Decision) (h : Heard c t d) where
+module _ (c : ℕ) (small : c < 256) (Y : List ℕ) (t : ℕ) (d : Decision) (h : DecidedAt c t d) where
   abbrev Next : Control → List ℕ → Type 0
   Next = Within c Y (suc t)
 
   not-both : d ≡ reads 1 → d ≡ reads 0 → ⊥
   not-both p q = false≢true (ap (λ (x : Decision). x .space) (sym p ∙ q))
 
-  step-before : t ≤ 19 → (s : Control) (X : List ℕ) → Resting (c ∷ Y) t s X → Moves Next s d X
-  step-before l s X r = early (decLe t 14) s X r
+  step-before : t ≤ 19 → (s : Control) (X : List ℕ) → BetweenCharacters (c ∷ Y) t s X → Moves Next s d X
+  step-before l s X r = at-first (decLe t 14) s X r
     where
-      early : Dec (t ≤ 14) → (s : Control) (X : List ℕ) → Resting (c ∷ Y) t s X → Moves Next s d X
-      early (yes p) s X r = moves-on (λ s X r. before (omega arith) r) (rests (c ∷ Y) t d (h .lead p) s X r)
-      early (no p) s X (owing byte wait a b) = absurd (omega arith)
-      early (no p) s X free = ⊎-elim mark space (either-bit d (h .good))
+      at-first : Dec (t ≤ 14) → (s : Control) (X : List ℕ) → BetweenCharacters (c ∷ Y) t s X → Moves Next s d X
+      at-first (yes p) s X r = moves-on (λ s X r. before (omega arith) r) (stays-between (c ∷ Y) t d (h .mark-before p) s X r)
+      at-first (no p) s X (stop-due byte wait a b) = absurd (omega arith)
+      at-first (no p) s X none-due = ⊎-elim mark space (either-bit d (h .good))
         where
           mark : d ≡ reads 1 → Moves Next (at 32 Searching) d (c ∷ Y)
           mark e = searches d e (go (decLe t 18))
             where
               go : Dec (t ≤ 18) → Next (at 32 Searching) (c ∷ Y)
-              go (yes q) = before (omega arith) free
-              go (no q) = absurd (not-both e (h .held 0 (omega arith) (omega arith) ∙ ap reads (bit-start c)))
+              go (yes q) = before (omega arith) none-due
+              go (no q) = absurd (not-both e (h .own-bit 0 (omega arith) (omega arith) ∙ ap reads (bit-start c)))
 
           space : d ≡ reads 0 → Moves Next (at 32 Searching) d (c ∷ Y)
           space e = finds d e (reading 16 0 0 (omega arith) (omega arith) (omega arith) (omega arith) refl)
@@ -124,7 +124,7 @@ module _ (c : ℕ) (small : c < 256) (Y : List ℕ) (t : ℕ) (d : Decision) (h 
   -- a slot is taken at this window
   step-start : 32 ≤ 1 + t → 1 + t ≤ 36 → (byte : ℕ) → Moves Next (at 32 (Waiting 1 0 byte)) d (c ∷ Y)
   step-start a b byte =
-      goes d 0 (h .held 0 (omega arith) (omega arith) ∙ ap reads (bit-start c)) (Waiting 1 0 byte) (quiet (Waiting 32 1 0)) (c ∷ Y)
+      goes d 0 (h .own-bit 0 (omega arith) (omega arith) ∙ ap reads (bit-start c)) (Waiting 1 0 byte) (quiet (Waiting 32 1 0)) (c ∷ Y)
       (wait-taken 32 (reads 0) 1 0 byte refl ∙ start-found byte (reads 0) 0 refl refl refl)
       (reading 32 1 0 (omega arith) (omega arith) (omega arith) (omega arith) (omega arith))
 
@@ -134,7 +134,7 @@ module _ (c : ℕ) (small : c < 256) (Y : List ℕ) (t : ℕ) (d : Decision) (h 
       let bit : ℕ = c / 2 ^ i % 2 in
       let sum : gathered (suc i) byte (isSpace bit) ≡ soFar c (suc i + 1) =
       ap (λ (x : ℕ). gathered (suc i) x (isSpace bit)) e ∙ gather c i ∙ ap (soFar c) (sym (add-one (suc i))) in
-      goes d bit (h .held (suc i) (omega arith) (omega arith) ∙ ap reads (bit-data c i l)) (Waiting 1 (suc i) byte)
+      goes d bit (h .own-bit (suc i) (omega arith) (omega arith) ∙ ap reads (bit-data c i l)) (Waiting 1 (suc i) byte)
       (quiet (Waiting 32 (suc i + 1) (gathered (suc i) byte (isSpace bit)))) (c ∷ Y)
       (wait-taken 32 (reads bit) 1 (suc i) byte refl ∙ data-bit byte (reads bit) (suc i) (λ z. omega arith) refl (omega arith))
       (reading 32 (suc i + 1) (gathered (suc i) byte (isSpace bit)) (omega arith) (omega arith) (omega arith) (omega arith) sum)
@@ -143,7 +143,7 @@ module _ (c : ℕ) (small : c < 256) (Y : List ℕ) (t : ℕ) (d : Decision) (h 
   step-stop byte a b e =
       let q : c ≡ byte = sym (e ∙ mod-eq-of-lt small) in
       subst (λ (x : ℕ). Moves Next (at 32 (Waiting 1 9 byte)) d (x ∷ Y)) (sym q)
-      (stops d (h .held 9 (omega arith) (omega arith) ∙ ap reads (bit-stop c)) byte (ended (omega arith)))
+      (stops d (h .own-bit 9 (omega arith) (omega arith) ∙ ap reads (bit-stop c)) byte (ended (omega arith)))
 
   step-reading : (wait m byte : ℕ) → 1 ≤ wait → m ≤ 9 → 32 + 32 * m ≤ wait + t → wait + t ≤ 36 + 32 * m → byte ≡ soFar c m
       → Moves Next (at 32 (Waiting wait m byte)) d (c ∷ Y)
@@ -167,17 +167,17 @@ pub within-step : (c : ℕ) → c < 256 → (Y : List ℕ) (j k : ℕ) → j < 1
     → (s : Control) (X : List ℕ) → Within c Y (32 * j + k) s X → Moves (Within c Y (32 * j + suc k)) s d X
 within-step c small Y j k l h d r s X w =
     let e : 32 * j + suc k ≡ suc (32 * j + k) = omega arith in
-    rw e (step c small Y (32 * j + k) d (hear c d j k h r) (omega arith) s X w)
+    rw e (step c small Y (32 * j + k) d (decided-at c d j k h r) (omega arith) s X w)
 
 -- ---- into a character and out of it
 
-pub enter : (c : ℕ) (Y : List ℕ) (s : Control) (X : List ℕ) → Resting (c ∷ Y) 0 s X → Within c Y 0 s X
+pub enter : (c : ℕ) (Y : List ℕ) (s : Control) (X : List ℕ) → BetweenCharacters (c ∷ Y) 0 s X → Within c Y 0 s X
 enter c Y s X r = before (omega arith) r
 
-pub leave : (c : ℕ) → c < 256 → (Y : List ℕ) (s : Control) (X : List ℕ) → Within c Y 320 s X → Resting Y 0 s X
+pub leave : (c : ℕ) → c < 256 → (Y : List ℕ) (s : Control) (X : List ℕ) → Within c Y 320 s X → BetweenCharacters Y 0 s X
 leave c small Y s X (before a r) = absurd (omega arith)
 leave c small Y s X (reading wait m byte a b p q e) =
     let nine : m ≡ 9 = omega arith in
     let whole : byte ≡ c = e ∙ ap (soFar c) nine ∙ mod-eq-of-lt small in
-    rw (nine, whole) (owing c wait a (omega arith))
-leave c small Y s X (ended a) = free
+    rw (nine, whole) (stop-due c wait a (omega arith))
+leave c small Y s X (ended a) = none-due

@@ -33,10 +33,16 @@ use Rattle.receiver.specs.Lists as reading
 use Rattle.receiver.proofs.Ranges as receiver-ranges
 use Rattle.receiver.proofs.Calls.{block-0}
 use Rattle.receiver.proofs.Lists.{one-reading}
+use Rattle.margin.specs.Windows.{disturbance}
 use Rattle.promise.specs.Recordings.{AreBytes, bytesOf, charactersSent, EndsSending, IsSending, trailer, text, leader, silence, Recording, characters}
-use Rattle.promise.specs.Demand.{disturbance}
-use Rattle.promise.specs.Possible.{concat, endingCalls, sendingCalls, blockCalls, IsText, NotVacuous}
+use Rattle.promise.specs.Possible.{Block, endingCalls, sendingCalls, blockCalls, IsText, NotVacuous}
 use Rattle.promise.proofs.Promise.{recording-near}
+
+abbrev joinedTexts : List (List ℕ) → List ℕ
+joinedTexts = each (λ text. text)
+
+abbrev joinedBlocks : List Block → List ℤ
+joinedBlocks = each (λ (b : Block). b .samples)
 
 -- ---- sending
 
@@ -67,7 +73,7 @@ ending-shape : (texts : List (List ℕ)) → EndsSending (endingCalls texts)
 ending-shape [] = trailer (silence 96)
 ending-shape (t ∷ texts) = text t (silence (320 * length t)) (ending-shape texts)
 
-ending-bytes : (texts : List (List ℕ)) → each bytesOf (endingCalls texts) ≡ concat texts
+ending-bytes : (texts : List (List ℕ)) → each bytesOf (endingCalls texts) ≡ joinedTexts texts
 ending-bytes [] = refl
 ending-bytes (t ∷ texts) = ap (λ (l : List ℕ). t ++ l) (ending-bytes texts)
 
@@ -75,7 +81,7 @@ all-append : {A : Type 0} {P : A → Type 0} {xs ys : List A} → All P xs → A
 all-append none k = k
 all-append (more h r) k = more h (all-append r k)
 
-texts-bytes : (texts : List (List ℕ)) → All IsText texts → AreBytes (concat texts)
+texts-bytes : (texts : List (List ℕ)) → All IsText texts → AreBytes (joinedTexts texts)
 texts-bytes [] none = none
 texts-bytes (t ∷ texts) (more h hs) = all-append (h .bytes) (texts-bytes texts hs)
 
@@ -92,19 +98,20 @@ unfolding after
 read-accepts s c h f =
     record { yes = ap isAccepted (block-0 s (c .samples) (c .lent) h (f .few) (f .samples) (f .room)); kept = one-reading s (c ∷ []) .range h }
 
-blocks-fit : (entry : reading.Entry) (blocks : List (List ℤ)) → All (λ block. length block ≤ 16384) blocks → areSamples (concat blocks) ≡ true
-    → All ReadFits (blockCalls entry blocks)
-blocks-fit entry [] none h = none
-blocks-fit entry (block ∷ blocks) (more l ls) h =
-    let both = sym (samples-append block (concat blocks)) ∙ h in
-    let places : ℕ = receiver.placesFor (length block) in
+blocks-fit : (blocks : List Block) → All (λ block. length (block .samples) ≤ 16384) blocks → areSamples (joinedBlocks blocks) ≡ true
+    → All ReadFits (blockCalls blocks)
+blocks-fit [] none h = none
+blocks-fit (block ∷ blocks) (more l ls) h =
+    let xs : List ℤ = block .samples in
+    let both = sym (samples-append xs (joinedBlocks blocks)) ∙ h in
+    let places : ℕ = receiver.placesFor (length xs) in
     let room : places ≤ length (replicate {A = ℕ} places 0) = omega (arith, length-replicate {A = ℕ} places 0) in
-    more (record { few = l; samples = and-elim-left (areSamples block) (areSamples (concat blocks)) both; room = room })
-    (blocks-fit entry blocks ls (and-elim-right (areSamples block) (areSamples (concat blocks)) both))
+    more (record { few = l; samples = and-elim-left (areSamples xs) (areSamples (joinedBlocks blocks)) both; room = room })
+    (blocks-fit blocks ls (and-elim-right (areSamples xs) (areSamples (joinedBlocks blocks)) both))
 
-blocks-samples : (entry : reading.Entry) (blocks : List (List ℤ)) → each (λ (c : reading.Call). c .samples) (blockCalls entry blocks) ≡ concat blocks
-blocks-samples entry [] = refl
-blocks-samples entry (block ∷ blocks) = ap (λ (l : List ℤ). block ++ l) (blocks-samples entry blocks)
+blocks-samples : (blocks : List Block) → each (λ (c : reading.Call). c .samples) (blockCalls blocks) ≡ joinedBlocks blocks
+blocks-samples [] = refl
+blocks-samples (block ∷ blocks) = ap (λ (l : List ℤ). block .samples ++ l) (blocks-samples blocks)
 
 -- a recording is in the range of samples: 6,000 and 100 are below 8,192
 pub recorded-samples : (s : Transmitter) (calls : List sending.Call) (recorded : List ℤ) → Recording disturbance (sending.samplesWritten s calls) recorded
@@ -127,14 +134,14 @@ module _ (band : ℕ) (known : isBand band ≡ true) (texts : List (List ℕ)) (
       all-accepted sending.callOf (λ (s : Transmitter). transmitter.inRange s ≡ true) SendFits send-accepts (sendingCalls texts)
       (more idle-fits (ending-fits texts ts)) (transmitter.fresh band) (transmitter-rules.fresh-kept band known)
 
-  pub message-sent : charactersSent band (sendingCalls texts) ≡ concat texts
+  pub message-sent : charactersSent band (sendingCalls texts) ≡ joinedTexts texts
   message-sent = joined-each sending.callOf bytesOf (transmitter.fresh band) (sendingCalls texts) ∙ ap (each bytesOf) all-sent ∙ ending-bytes texts
 
   pub is-sending : IsSending (acceptedCalls sending.callOf (transmitter.fresh band) (sendingCalls texts))
   is-sending = subst IsSending (sym all-sent) (leader (silence 96) (ending-shape texts))
 
 pub not-vacuous : NotVacuous
-not-vacuous entry band known texts ts blocks bs r =
+not-vacuous band known texts ts before after added small blocks bs sum =
     record {
       transmission =
           record {
@@ -143,12 +150,12 @@ not-vacuous entry band known texts ts blocks bs r =
             sent = sendingCalls texts;
             shape = is-sending band known texts ts;
             bytes = subst AreBytes (sym (message-sent band known texts ts)) (texts-bytes texts ts);
-            recorded = concat blocks;
-            recording = r;
-            blocks = blockCalls entry blocks;
+            recorded = joinedBlocks blocks;
+            recording = recording;
+            blocks = blockCalls blocks;
             read =
-                joined-each reading.callOf (λ (c : reading.Call). c .samples) (receiver.fresh band) (blockCalls entry blocks)
-                ∙ ap (each (λ (c : reading.Call). c .samples)) all-read ∙ blocks-samples entry blocks;
+                joined-each reading.callOf (λ (c : reading.Call). c .samples) (receiver.fresh band) (blockCalls blocks)
+                ∙ ap (each (λ (c : reading.Call). c .samples)) all-read ∙ blocks-samples blocks;
           };
       in-band = refl;
       sent = refl;
@@ -159,8 +166,11 @@ not-vacuous entry band known texts ts blocks bs r =
       all-read = all-read;
     }
   where
-    all-read : acceptedCalls reading.callOf (receiver.fresh band) (blockCalls entry blocks) ≡ blockCalls entry blocks
+    recording : Recording disturbance (sending.samplesWritten (transmitter.fresh band) (sendingCalls texts)) (joinedBlocks blocks)
+    recording = record { before = before; after = after; added = added; small = small; sum = sum }
+
+    all-read : acceptedCalls reading.callOf (receiver.fresh band) (blockCalls blocks) ≡ blockCalls blocks
     all-read =
-        all-accepted reading.callOf (λ (s : Receiver). receiver.inRange s ≡ true) ReadFits read-accepts (blockCalls entry blocks)
-        (blocks-fit entry blocks bs (recorded-samples (transmitter.fresh band) (sendingCalls texts) (concat blocks) r))
+        all-accepted reading.callOf (λ (s : Receiver). receiver.inRange s ≡ true) ReadFits read-accepts (blockCalls blocks)
+        (blocks-fit blocks bs (recorded-samples (transmitter.fresh band) (sendingCalls texts) (joinedBlocks blocks) recording))
         (receiver.fresh band) (receiver-ranges.fresh-kept band known)

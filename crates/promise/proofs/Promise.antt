@@ -77,8 +77,8 @@ module _ {noise : ℕ} (t : Transmission noise) (M : Margins noise (tonesOf (t .
       near : Near noise (silence (t .recording .before) ++ (sendBits tones 0 (idleBits ++ (charactersBits (characters t) ++ idleBits)) ++ silence (t .recording .after))) samples
       near = rw (t .read, ← sent-samples (t .band) (t .sent) (t .shape)) (recording-near (t .recording))
 
-  pub sound : AreBytes (events t)
-  sound = subst AreBytes (sym read-as-sent) (t .bytes)
+  pub no-fault : AreBytes (events t)
+  no-fault = subst AreBytes (sym read-as-sent) (t .bytes)
 
 -- ---- two of them
 
@@ -90,8 +90,8 @@ module _ {noise : ℕ} (M : (band : ℕ) → Margins noise (tonesOf band)) where
       record {
         first = first;
         second = second;
-        first-sound = sound a (M (a .band));
-        second-sound = sound b (M (b .band));
+        first-no-fault = no-fault a (M (a .band));
+        second-no-fault = no-fault b (M (b .band));
         equal = (λ e. sym first ∙ e ∙ second, λ e. first ∙ e ∙ sym second);
       }
 

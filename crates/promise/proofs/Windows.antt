@@ -4,7 +4,7 @@
 use mathlib.Core.Path.{_≡_, sym, ap, ap₂, _∙_, subst}
 use mathlib.Core.Bool.{true}
 use mathlib.Core.List.{List, [], _∷_, _++_, append-assoc, append-nil}
-use Prim.Native.Nat.{ℕ, suc, _+_, _*_, _-_, _%_, _≤_, _<_}
+use Prim.Native.Nat.{ℕ, suc, _+_, _-_, _≤_, _<_}
 use native.Mathlib.Omega.{arith}
 use lib.IntN.{ℤ, pos}
 use lib.ListN.{length, take, drop, length-append, length-drop, length-replicate, replicate-append-replicate}
@@ -19,7 +19,7 @@ use Rattle.transmitter.proofs.Laws.{send-bits-append, send-bit, phase-bit}
 use Rattle.receiver.specs.declared.Decision.{Decision}
 use Rattle.receiver.specs.Energy.{decisionOf}
 use Rattle.receiver.specs.Step.{Control}
-use Rattle.margin.specs.Windows.{across, Margins}
+use Rattle.margin.specs.Windows.{phaseAfterBit, across, Margins}
 use Rattle.promise.specs.Recordings.{silence}
 use Rattle.promise.proofs.Steps.{reads, as-read, Moves}
 use Rattle.promise.proofs.Along.{Gives, along}
@@ -49,8 +49,8 @@ silent-window n k more h =
 
 -- the last of a and k silent samples, and then silence alone
 module _ (a : List ℤ) (e : length a ≡ 32) (m k : ℕ) (l : k ≤ m) where
-  pub fading-window : k ≤ 32 → take 32 (drop k (a ++ silence m)) ≡ drop k a ++ silence k
-  fading-window h =
+  pub mark-then-silence-window : k ≤ 32 → take 32 (drop k (a ++ silence m)) ≡ drop k a ++ silence k
+  mark-then-silence-window h =
       let n : k + (m - k) ≡ m = omega arith in
       ap (λ (xs : List ℤ). take 32 (drop k (a ++ xs))) (ap silence (sym n) ∙ sym (replicate-append-replicate k (m - k) (pos 0)))
       ∙ window a (silence k) (silence (m - k)) k e h (omega (arith, length-replicate k (pos 0)))
@@ -82,13 +82,9 @@ module _ {noise : ℕ} (t : Tones) (M : Margins noise t) where
         steady = λ e. as-read d a good (M .steady p s a k h w (subst (λ (c : ℕ). Near noise (across t p a c k) w) (sym e) n));
       }
 
-  -- the phase after a bit
-  abbrev pub onward : ℕ → ℕ → ℕ
-  onward p bit = (p + 32 * stepOf t bit) % 1920
-
   -- the samples from the bit a on, which begins at the phase p: the bit, those behind it, and m silent ones
   abbrev pub sentFrom : ℕ → ℕ → List ℕ → ℕ → List ℤ
-  sentFrom p a bits m = wave 32 (stepOf t a) p ++ (sendBits t (onward p a) bits ++ silence m)
+  sentFrom p a bits m = wave 32 (stepOf t a) p ++ (sendBits t (phaseAfterBit t p a) bits ++ silence m)
 
   -- the next bit's samples come first
   pub sent-next : (p b : ℕ) (bits : List ℕ) (m : ℕ) → sendBits t p (b ∷ bits) ++ silence m ≡ sentFrom p b bits m
@@ -96,31 +92,31 @@ module _ {noise : ℕ} (t : Tones) (M : Margins noise t) where
       ap (λ (xs : List ℤ). xs ++ silence m)
       (send-bits-append t p (b ∷ []) bits
       ∙ ap₂ (λ (xs : List ℤ) (q : ℕ). xs ++ sendBits t q bits) (send-bit t p b) (phase-bit t p b))
-      ∙ append-assoc (wave 32 (stepOf t b) p) (sendBits t (onward p b) bits) (silence m)
+      ∙ append-assoc (wave 32 (stepOf t b) p) (sendBits t (phaseAfterBit t p b) bits) (silence m)
 
   -- The 32 windows from the bit a to the bit b behind it keep an invariant, and from b on what is then due is given.
   module _ (p : ℕ) (begins : M .Begins p) (a b : ℕ) (bits : List ℕ) (m : ℕ) (I : ℕ → Control → List ℕ → Type 0)
       (step : (k : ℕ) → k < 32 → (d : Decision) → Read a b k d → (s : Control) (X : List ℕ) → I k s X → Moves (I (suc k)) s d X)
-      (rest : (s : Control) (X : List ℕ) → I 32 s X → Gives noise (decisionOf t) (sentFrom (onward p a) b bits m) s X) where
+      (rest : (s : Control) (X : List ℕ) → I 32 s X → Gives noise (decisionOf t) (sentFrom (phaseAfterBit t p a) b bits m) s X) where
     abbrev first : List ℤ
     first = wave 32 (stepOf t a) p
 
     abbrev second : List ℤ
-    second = wave 32 (stepOf t b) (onward p a)
+    second = wave 32 (stepOf t b) (phaseAfterBit t p a)
 
     abbrev more : List ℤ
-    more = sendBits t (onward (onward p a) b) bits ++ silence m
+    more = sendBits t (phaseAfterBit t (phaseAfterBit t p a) b) bits ++ silence m
 
     two-bits : (k : ℕ) → k < 32 → take 32 (drop k (first ++ (second ++ more))) ≡ across t p a b k
     unfolding across
     two-bits k h =
-        window first second more k (length-wave 32 (stepOf t a) p) (omega arith) (omega (arith, length-wave 32 (stepOf t b) (onward p a)))
+        window first second more k (length-wave 32 (stepOf t a) p) (omega arith) (omega (arith, length-wave 32 (stepOf t b) (phaseAfterBit t p a)))
 
     pub through-bit : (s : Control) (X : List ℕ) → I 0 s X → Gives noise (decisionOf t) (sentFrom p a (b ∷ bits) m) s X
     through-bit s X i =
-        subst (λ (clean : List ℤ). Gives noise (decisionOf t) clean s X) (ap (λ (xs : List ℤ). first ++ xs) (sym (sent-next (onward p a) b bits m)))
+        subst (λ (clean : List ℤ). Gives noise (decisionOf t) clean s X) (ap (λ (xs : List ℤ). first ++ xs) (sym (sent-next (phaseAfterBit t p a) b bits m)))
         (along noise (decisionOf t) (first ++ (second ++ more)) 32
-        (omega (arith, length-append first (second ++ more), length-append second more, length-wave 32 (stepOf t a) p, length-wave 32 (stepOf t b) (onward p a)))
+        (omega (arith, length-append first (second ++ more), length-append second more, length-wave 32 (stepOf t a) p, length-wave 32 (stepOf t b) (phaseAfterBit t p a)))
         I (λ k h w n. step k h (decisionOf t w) (read p begins a b k h w (subst (λ (c : List ℤ). Near noise c w) (two-bits k h) n)))
         (λ s X i. subst (λ (clean : List ℤ). Gives noise (decisionOf t) clean s X) (sym (drop-at first (second ++ more) 32 (length-wave 32 (stepOf t a) p))) (rest s X i))
         s X i)

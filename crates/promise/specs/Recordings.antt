@@ -35,13 +35,13 @@ bytesOf (sending.characters bytes lent) = bytes
 abbrev pub charactersSent : ℕ → List sending.Call → List ℕ
 charactersSent band = joined sending.callOf (λ o c. bytesOf c) (transmitter.fresh band)
 
--- any number of characters calls (none too), then one idle
+-- the accepted calls of a sending behind its leader: any number of characters calls (none too), then one idle
 pub data EndsSending : List sending.Call → Type 0 where
   trailer : (lent : List ℤ) → EndsSending (sending.idle lent ∷ [])
   text : (bytes : List ℕ) (lent : List ℤ) {calls : List sending.Call} → EndsSending calls
       → EndsSending (sending.characters bytes lent ∷ calls)
 
--- one idle, and then these
+-- the accepted calls of a sending: one idle, and then these
 pub data IsSending : List sending.Call → Type 0 where
   leader : (lent : List ℤ) {calls : List sending.Call} → EndsSending calls → IsSending (sending.idle lent ∷ calls)
 
@@ -65,10 +65,11 @@ pub record Recording (noise : ℕ) (samples recorded : List ℤ) : Type 0 where
 pub record Transmission (noise : ℕ) : Type 0 where
   pub band : ℕ
   pub known : isBand band ≡ true
-  -- a list of idle and characters calls from the fresh transmitter of its band, whose accepted ones are a sending
+  -- a sending: a list of idle and characters calls from the fresh transmitter of its band; the accepted ones are one idle, any number
+  -- of characters calls, and one idle
   pub sent : List sending.Call
   pub shape : IsSending (acceptedCalls sending.callOf (transmitter.fresh band) sent)
-  -- what is handed to a characters call are bytes
+  -- the characters sent are bytes; nothing is asked of what a refused call was handed (decision 29)
   pub bytes : AreBytes (charactersSent band sent)
   -- a recording of the samples that the accepted calls wrote, as they stood on return
   pub recorded : List ℤ

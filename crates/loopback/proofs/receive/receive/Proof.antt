@@ -10,12 +10,12 @@ use lib.ListN.{length, take, drop, length-take}
 use Rattle.receiver.specs.declared.Opened.{Opened}
 use Rattle.receiver.specs.Calls.{fresh}
 use Rattle.receiver.proofs.Ranges.{open-band, fresh-kept}
-use Rattle.loopback.proofs.Receiving.{Reading, reading-start, block-samples, block-room, reading-more, reading-count, reading-end}
+use Rattle.loopback.proofs.Receiving.{InBlocks, reading-start, block-samples, block-room, reading-more, reading-count, reading-end}
 use Rattle.loopback.proofs.receive.receive.Statement.{statement}
 use Rattle.loopback.proofs.receive.receive.Tie as tie
 
 abbrev Inv-loop : tie.InvT-loop
-Inv-loop band samples size events₀ r₀ at₀ count₀ events r at count = Reading (fresh band) samples events₀ r at count events
+Inv-loop band samples size events₀ r₀ at₀ count₀ events r at count = InBlocks (fresh band) samples events₀ r at count events
 
 abbrev μ-loop : tie.MeasureT-loop
 μ-loop band samples size events₀ r₀ at₀ count₀ events r at count = length samples - at

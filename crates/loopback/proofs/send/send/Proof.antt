@@ -36,14 +36,14 @@ module _ (c : tie.After-idle) where
   abbrev begun : Transmitter
   begun = afterBits (fresh band) idleBits
 
-  led : c .idle .result ≡ begun
-  led = c .idle .ensures .0 ∙ ap (λ (s : Transmitter). afterBits s idleBits) (opened (c .before .before .before))
+  leader-sent : c .idle .result ≡ begun
+  leader-sent = c .idle .ensures .0 ∙ ap (λ (s : Transmitter). afterBits s idleBits) (opened (c .before .before .before))
 
-  led-lent : c .idle .last .1 .1 .0 ≡ sets (c .before .before .before .before .before .args .samples .now) 0 (altered (samplesOf (fresh band) idleBits) ds)
-  led-lent = c .idle .ensures .1 ∙ ap (λ (s : Transmitter). sets (c .before .before .before .before .before .args .samples .now) 0 (altered (samplesOf s idleBits) ds)) (opened (c .before .before .before))
+  leader-lent : c .idle .last .1 .1 .0 ≡ sets (c .before .before .before .before .before .args .samples .now) 0 (altered (samplesOf (fresh band) idleBits) ds)
+  leader-lent = c .idle .ensures .1 ∙ ap (λ (s : Transmitter). sets (c .before .before .before .before .before .args .samples .now) 0 (altered (samplesOf s idleBits) ds)) (opened (c .before .before .before))
 
-  led-long : length (c .idle .last .1 .1 .0) ≡ length (c .before .before .before .before .before .args .samples .now)
-  led-long = ap length led-lent ∙ length-sets (c .before .before .before .before .before .args .samples .now) 0 (altered (samplesOf (fresh band) idleBits) ds)
+  leader-long : length (c .idle .last .1 .1 .0) ≡ length (c .before .before .before .before .before .args .samples .now)
+  leader-long = ap length leader-lent ∙ length-sets (c .before .before .before .before .before .args .samples .now) 0 (altered (samplesOf (fresh band) idleBits) ds)
 
   begun-kept : inRange begun ≡ true
   begun-kept = steps-kept (fresh band) (bitSteps (tonesOf band) idleBits) (fresh-kept band (c .before .before .before .before .before .pre .0))
@@ -55,19 +55,19 @@ module _ (c : tie.After-text) where
   abbrev ended : Transmitter
   ended = afterBits (begun (c .before .before .before)) (charactersBits cs)
 
-  texted : c .text .result ≡ ended
-  texted = c .text .ensures .0 ∙ ap (λ (s : Transmitter). afterBits s (charactersBits cs)) (led (c .before .before .before))
+  text-sent : c .text .result ≡ ended
+  text-sent = c .text .ensures .0 ∙ ap (λ (s : Transmitter). afterBits s (charactersBits cs)) (leader-sent (c .before .before .before))
 
-  texted-lent : c .text .last .1 .1 .1 .0 ≡ sets (c .before .before .before .idle .last .1 .1 .0) 96 (altered (samplesOf (begun (c .before .before .before)) (charactersBits cs)) (drop 96 (ds (c .before .before .before))))
-  texted-lent =
+  text-lent : c .text .last .1 .1 .1 .0 ≡ sets (c .before .before .before .idle .last .1 .1 .0) 96 (altered (samplesOf (begun (c .before .before .before)) (charactersBits cs)) (drop 96 (ds (c .before .before .before))))
+  text-lent =
       c .text .ensures .1
-      ∙ ap (λ (s : Transmitter). sets (c .before .before .before .idle .last .1 .1 .0) 96 (altered (samplesOf s (charactersBits cs)) (drop 96 (ds (c .before .before .before))))) (led (c .before .before .before))
+      ∙ ap (λ (s : Transmitter). sets (c .before .before .before .idle .last .1 .1 .0) 96 (altered (samplesOf s (charactersBits cs)) (drop 96 (ds (c .before .before .before))))) (leader-sent (c .before .before .before))
 
-  texted-long : length (c .text .last .1 .1 .1 .0) ≡ length (c .before .before .before .before .before .before .before .before .args .samples .now)
-  texted-long =
-      ap length texted-lent
+  text-long : length (c .text .last .1 .1 .1 .0) ≡ length (c .before .before .before .before .before .before .before .before .args .samples .now)
+  text-long =
+      ap length text-lent
       ∙ length-sets (c .before .before .before .idle .last .1 .1 .0) 96 (altered (samplesOf (begun (c .before .before .before)) (charactersBits cs)) (drop 96 (ds (c .before .before .before))))
-      ∙ led-long (c .before .before .before)
+      ∙ leader-long (c .before .before .before)
 
 -- ---- what each call asks, and what is left at the end
 
@@ -82,8 +82,8 @@ idle-requires c κs = (
 
 text-requires : tie.Need-text-requires
 text-requires c κs = (
-  rw (led (c .before .before)) (begun-kept (c .before .before)),
-  (c .before .before .before .before .before .before .before .pre .1 .0, disturbs-less _ _ _ (c .before .before .before .before .before .before .before .pre .1 .1) (omega arith) (led-long (c .before .before))),
+  rw (leader-sent (c .before .before)) (begun-kept (c .before .before)),
+  (c .before .before .before .before .before .before .before .pre .1 .0, disturbs-less _ _ _ (c .before .before .before .before .before .before .before .pre .1 .1) (omega arith) (leader-long (c .before .before))),
 )
 
 mul-end : tie.Need-mul-end
@@ -94,9 +94,9 @@ add-end c = search needs
 
 idle-requires-2 : tie.Need-idle-requires-2
 idle-requires-2 c κs = (
-  rw (texted (c .before .before)) (steps-kept (begun (c .before .before .before .before .before)) (bitSteps (tonesOf (band (c .before .before .before .before .before))) (charactersBits (cs (c .before .before)))) (begun-kept (c .before .before .before .before .before))),
+  rw (text-sent (c .before .before)) (steps-kept (begun (c .before .before .before .before .before)) (bitSteps (tonesOf (band (c .before .before .before .before .before))) (charactersBits (cs (c .before .before)))) (begun-kept (c .before .before .before .before .before))),
   disturbs-less _ _ _ (c .before .before .before .before .before .before .before .before .before .before .pre .1 .1) (omega arith)
-      (texted-long (c .before .before)),
+      (text-long (c .before .before)),
 )
 
 add-result : tie.Need-add-result
@@ -112,10 +112,10 @@ returns c =
     let tail = altered (samplesOf (ended (c .before .before .before .before)) idleBits) (drop n (a .disturbance .now)) in (
       omega arith,
       c .before .idle2 .ensures .1
-          ∙ ap (λ (s : Transmitter). sets (c .before .before .before .before .text .last .1 .1 .1 .0) n (altered (samplesOf s idleBits) (drop n (a .disturbance .now)))) (texted (c .before .before .before .before))
+          ∙ ap (λ (s : Transmitter). sets (c .before .before .before .before .text .last .1 .1 .1 .0) n (altered (samplesOf s idleBits) (drop n (a .disturbance .now)))) (text-sent (c .before .before .before .before))
           ∙ ap (λ (l : List ℤ). sets l n tail)
-          (texted-lent (c .before .before .before .before)
-          ∙ ap (λ (l : List ℤ). sets l 96 (altered (samplesOf (begun (c .before .before .before .before .before .before .before)) (charactersBits (a .characters .now))) (drop 96 (a .disturbance .now)))) (led-lent (c .before .before .before .before .before .before .before)))
+          (text-lent (c .before .before .before .before)
+          ∙ ap (λ (l : List ℤ). sets l 96 (altered (samplesOf (begun (c .before .before .before .before .before .before .before)) (charactersBits (a .characters .now))) (drop 96 (a .disturbance .now)))) (leader-lent (c .before .before .before .before .before .before .before)))
           ∙ all-parts (a .band) (a .characters .now) (a .disturbance .now) (a .samples .now),
     )
 
