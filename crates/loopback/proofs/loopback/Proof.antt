@@ -27,14 +27,17 @@ use Rattle.loopback.proofs.loopback.Tie as tie
 -- ---- nothing is refused
 
 module _ (c : tie.Else1) where
+  abbrev start : tie.Start
+  start = c .before .before .before .before
+
   abbrev band : ℕ
-  band = c .before .before .before .before .args .band
+  band = start .args .band
 
   abbrev cs : List ℕ
-  cs = c .before .before .before .before .args .characters .now
+  cs = start .args .characters .now
 
   abbrev ds : List ℤ
-  ds = c .before .before .before .before .args .disturbance .now
+  ds = start .args .disturbance .now
 
   abbrev recorded : List ℤ
   recorded = recordedOf band cs ds
@@ -42,7 +45,7 @@ module _ (c : tie.Else1) where
   none : c .before .refusal .result ≡ 0
   none = c .if1 .left
 
-  all-allowed : Allowed band (length cs) ds (c .before .before .before .before .args .size) (length (c .before .before .before .before .args .samples .now)) (length (c .before .before .before .before .args .events .now))
+  all-allowed : Allowed band (length cs) ds (start .args .size) (length (start .args .samples .now)) (length (start .args .events .now))
   all-allowed = allowed _ _ _ _ _ _ (sym (c .before .refusal .ensures) ∙ none)
 
   bytes : AreBytes cs

@@ -72,7 +72,9 @@ put-requires c κs =
     omega (arith, ap length (events (c .before .before .before .before .before)), c .before .before .before .before .before .before .before .before .pre .1 .1)
 
 add-t17 : tie.Need-add-t17
-add-t17 c = omega (arith, counted (c .before .before .before .before .before .before .before .before), c .before .before .before .before .before .before .before .before .before .before .before .pre .1 .1)
+add-t17 c =
+    let call = c .before .before .before .before .before .before .before .before in
+    omega (arith, counted call, call .before .before .before .pre .1 .1)
 
 same-length : tie.Need-same-length
 same-length c = search needs

@@ -88,7 +88,8 @@ loop-again c =
     let b = c .before .before .before .before .before .before .before in
     let l = c .before .before .before .before .before .before .before .before .before .loop in
     rw (c .before .before .before .before .read .ensures .0, c .before .before .before .before .read .ensures .1)
-    (reading-more _ _ _ _ _ _ _ (l .inv) (end b) (omega (arith, begins b)) (ends b) (c .before .before .before .before .before .before .before .before .before .before .before .before .before .pre .1 .0))
+    (reading-more _ _ _ _ _ _ _ (l .inv) (end b) (omega (arith, begins b)) (ends b)
+    (c .before .before .before .before .before .before .before .before .before .before .before .before .before .pre .1 .0))
 
 same-length : tie.Need-same-length Inv-loop μ-loop
 same-length c = c .before .loop .inv .filled .long
