@@ -1,22 +1,50 @@
 //! How far a disturbance can move the energies of a window, and which tone it
-//! leaves the stronger one for certain.
+//! leaves the stronger one for certain: the margin test of the proof once more.
 
-use crate::receiver::{Tone, WINDOW};
+use crate::receiver::{Tone, GOOD_ENERGY, WINDOW};
 use crate::sine::Sines;
-use crate::transmitter::STEPS;
+use crate::transmitter::CYCLE;
+use std::array;
 
 /// The most that is added to a sample or taken from it.
-pub const MOST: i64 = 100;
+pub const MOST: i16 = 100;
 
-/// A window with up to this many samples of the later of two bits is still won
-/// by the tone of the earlier.
-pub const LAST_OF_EARLIER: i64 = 14;
-/// From this many on it is won by the tone of the later. In between it depends
-/// on the phase and on the disturbance.
-pub const FIRST_OF_LATER: i64 = 19;
+/// Up to which window, and from which on, a tone wins for certain.
+#[derive(Clone, Copy, Debug)]
+pub struct Limits {
+    /// A window with up to this many samples of the later of two bits is still
+    /// won by the tone of the earlier.
+    pub last_of_earlier: i64,
+    /// From this many on it is won by the tone of the later. In between it
+    /// depends on the phase and on the disturbance.
+    pub first_of_later: i64,
+    /// A window of a mark bit is still won by mark when up to this many silent
+    /// samples have followed the bit.
+    pub last_silent: i64,
+}
+
+pub const LIMITS: Limits = Limits {
+    last_of_earlier: 14,
+    first_of_later: 19,
+    last_silent: 15,
+};
+
+impl Limits {
+    /// The bit whose tone wins for certain in a window that ends with `count`
+    /// samples of the bit `later` and begins with samples of `earlier`.
+    pub fn certain(&self, earlier: u8, later: u8, count: i64) -> Option<u8> {
+        if earlier == later || count <= self.last_of_earlier {
+            Some(earlier)
+        } else if count >= self.first_of_later {
+            Some(later)
+        } else {
+            None
+        }
+    }
+}
 
 /// The energy of one tone in a window, undisturbed, and the bounds that it
-/// keeps when every sample is altered by at most [`MOST`].
+/// keeps when every sample is altered.
 #[derive(Clone, Copy, Debug)]
 pub struct Energy {
     pub least: i64,
@@ -31,10 +59,10 @@ struct Disturbed {
 }
 
 impl Disturbed {
-    fn new(sines: &Sines, step: u16) -> Disturbed {
+    fn new(sines: &Sines, step: u16, most: i16) -> Disturbed {
         let tone = Tone::new(sines, step);
         let size = |weights: &[i64; WINDOW]| weights.iter().map(|x| x.abs()).sum::<i64>();
-        let moves = [&tone.cosines, &tone.sines].map(|weights| MOST * size(weights));
+        let moves = [&tone.cosines, &tone.sines].map(|weights| i64::from(most) * size(weights));
         Disturbed { tone, moves }
     }
 
@@ -52,14 +80,13 @@ impl Disturbed {
     }
 }
 
-/// The two tones of a band.
-pub struct Band([Disturbed; 2]);
+/// The tones of space and mark.
+pub struct Pair([Disturbed; 2]);
 
-impl Band {
-    /// Of band 1 or 2.
-    pub fn new(sines: &Sines, band: u8) -> Band {
-        let steps = STEPS[usize::from(band) - 1];
-        Band(steps.map(|step| Disturbed::new(sines, step)))
+impl Pair {
+    /// With these steps, and every sample altered by at most `most`.
+    pub fn new(sines: &Sines, steps: [u16; 2], most: i16) -> Pair {
+        Pair(steps.map(|step| Disturbed::new(sines, step, most)))
     }
 
     /// The energies of space and of mark.
@@ -68,14 +95,130 @@ impl Band {
     }
 }
 
-/// The bit whose tone wins for certain in a window that ends with `count`
-/// samples of the bit `later` and begins with samples of `earlier`.
-pub fn certain(earlier: u8, later: u8, count: i64) -> Option<u8> {
-    if earlier == later || count <= LAST_OF_EARLIER {
-        Some(earlier)
-    } else if count >= FIRST_OF_LATER {
-        Some(later)
+/// The bit that is read for certain: mark where the energies are equal.
+pub fn winner([space, mark]: &[Energy; 2]) -> Option<u8> {
+    if mark.most < space.least {
+        Some(0)
+    } else if space.most <= mark.least {
+        Some(1)
     } else {
         None
+    }
+}
+
+/// The level is good for certain.
+pub fn is_good([space, mark]: &[Energy; 2]) -> bool {
+    space.least.max(mark.least) >= GOOD_ENERGY
+}
+
+/// The level is not good for certain.
+fn is_silent([space, mark]: &[Energy; 2]) -> bool {
+    space.most.max(mark.most) < GOOD_ENERGY
+}
+
+/// The phases at which a bit can begin: 0, and with each the two at which its
+/// bit can end.
+pub fn beginnings(steps: [u16; 2]) -> Vec<u16> {
+    let mut phases = vec![0];
+    let mut followed = 0;
+    while followed < phases.len() {
+        for step in steps {
+            let end = end_of_bit(phases[followed], step);
+            if !phases.contains(&end) {
+                phases.push(end);
+            }
+        }
+        followed += 1;
+    }
+    phases
+}
+
+fn end_of_bit(phase: u16, step: u16) -> u16 {
+    (phase + WINDOW as u16 * step) % CYCLE
+}
+
+/// The margin test of the proof: with every sample altered by at most `most`,
+/// each window of a sending by tones of these steps is read as the limits say.
+/// An error tells the first window that is not.
+pub fn margins(sines: &Sines, steps: [u16; 2], most: i16, limits: &Limits) -> Result<(), String> {
+    let sent = Sent {
+        sines,
+        steps,
+        tones: Pair::new(sines, steps, most),
+    };
+    sent.silence()?;
+    for phase in beginnings(steps) {
+        for [earlier, later] in [[0, 0], [0, 1], [1, 0], [1, 1]] {
+            sent.two_bits(phase, earlier, later, limits)?;
+        }
+        sent.fading(phase, limits)?;
+    }
+    Ok(())
+}
+
+/// The windows of a sending.
+struct Sent<'a> {
+    sines: &'a Sines,
+    steps: [u16; 2],
+    tones: Pair,
+}
+
+impl Sent<'_> {
+    /// The samples of a bit, which are as many as a window has.
+    fn bit(&self, phase: u16, bit: u8) -> [i16; WINDOW] {
+        let step = usize::from(self.steps[usize::from(bit)]);
+        array::from_fn(|place| self.sines.s(usize::from(phase) + place * step))
+    }
+
+    /// The energies of the window when `count` of the samples `behind` have
+    /// entered it and as many of those before them have left.
+    fn energies(&self, before: &[i16; WINDOW], behind: &[i16; WINDOW], count: i64) -> [Energy; 2] {
+        let both = [*before, *behind].concat();
+        let window = both[count as usize..].first_chunk();
+        self.tones
+            .energies(window.expect("at most a window has entered"))
+    }
+
+    fn silence(&self) -> Result<(), String> {
+        let silence = [0; WINDOW];
+        ensure(is_silent(&self.tones.energies(&silence)), || {
+            "silence has a good level".to_string()
+        })
+    }
+
+    /// One bit that begins at the phase, and the bit behind it.
+    fn two_bits(&self, phase: u16, earlier: u8, later: u8, limits: &Limits) -> Result<(), String> {
+        let before = self.bit(phase, earlier);
+        let behind = self.bit(end_of_bit(phase, self.steps[usize::from(earlier)]), later);
+        for count in 0..WINDOW as i64 {
+            let energies = self.energies(&before, &behind, count);
+            let what = || format!("{count} samples of {later} behind {earlier} at phase {phase}");
+            ensure(is_good(&energies), || format!("{}: the level", what()))?;
+            if let Some(bit) = limits.certain(earlier, later, count) {
+                let wins = winner(&energies) == Some(bit);
+                ensure(wins, || format!("{}: not {bit}", what()))?;
+            }
+        }
+        Ok(())
+    }
+
+    /// A mark bit that begins at the phase, and silence behind it.
+    fn fading(&self, phase: u16, limits: &Limits) -> Result<(), String> {
+        let mark = self.bit(phase, 1);
+        for count in 0..=limits.last_silent {
+            let energies = self.energies(&mark, &[0; WINDOW], count);
+            ensure(winner(&energies) == Some(1), || {
+                format!("{count} silent samples behind mark at phase {phase}")
+            })?;
+        }
+        Ok(())
+    }
+}
+
+fn ensure(holds: bool, what: impl Fn() -> String) -> Result<(), String> {
+    if holds {
+        Ok(())
+    } else {
+        Err(what())
     }
 }

@@ -2,14 +2,14 @@
 
 use crate::sine::Sines;
 
-const CYCLE: u16 = 1_920;
+pub(crate) const CYCLE: u16 = 1_920;
 const SAMPLES_PER_BIT: usize = 32;
 pub(crate) const IDLE_SAMPLES: usize = 96;
 const CHARACTER_SAMPLES: usize = 320;
 const MOST_CHARACTERS: usize = 100;
 
 /// Steps of bit 0 (space) and bit 1 (mark) for bands 1 and 2.
-pub(crate) const STEPS: [[u16; 2]; 2] = [[214, 254], [405, 445]];
+pub const STEPS: [[u16; 2]; 2] = [[214, 254], [405, 445]];
 
 #[derive(Clone, Copy, Debug, PartialEq, Eq)]
 pub struct State {

@@ -3,13 +3,13 @@
 
 mod common;
 
-use common::recording::{around_0, disturbed, every_character, sending, DISTURBANCE};
+use common::recording::{around_0, disturbed, every_character, sending};
 use common::{sines, BANDS};
-use reference::disturbance::{certain, Band, Energy};
+use reference::disturbance::{is_good, winner, Pair, LIMITS, MOST};
 use reference::picture;
 use reference::random::Random;
-use reference::receiver::{self, GOOD_ENERGY};
-use reference::transmitter::{characters, State};
+use reference::receiver;
+use reference::transmitter::{characters, State, STEPS};
 use std::fs;
 
 #[test]
@@ -27,11 +27,6 @@ fn the_file_is_what_the_program_draws() {
     }
 }
 
-fn wins(energies: &[Energy; 2], bit: u8) -> bool {
-    let [own, other] = [bit, 1 - bit].map(|bit| energies[usize::from(bit)]);
-    own.least > other.most
-}
-
 /// Start, data and stop bits of 06 hexadecimal: each pair of bits is there.
 const BITS: [u8; 10] = [0, 0, 1, 1, 0, 0, 0, 0, 0, 1];
 
@@ -39,7 +34,7 @@ const BITS: [u8; 10] = [0, 0, 1, 1, 0, 0, 0, 0, 0, 1];
 /// pair of bits to every phase. Gives how often neither tone was certain to win
 /// where that is allowed, by the number of samples of the later bit.
 fn undecided(band: u8) -> [usize; 32] {
-    let tones = Band::new(sines(), band);
+    let tones = Pair::new(sines(), STEPS[usize::from(band) - 1], MOST);
     let mut undecided = [0; 32];
     let mut samples = [0; 320];
     for phase in 0..1_920 {
@@ -49,13 +44,12 @@ fn undecided(band: u8) -> [usize; 32] {
             let (bit, count) = (start / 32, start % 32);
             let later = BITS.get(bit + 1).copied().unwrap_or(1);
             let what = || format!("band {band}, phase {phase}, window {start}");
-            let winner = [0, 1].into_iter().find(|&bit| wins(&energies, bit));
-            match certain(BITS[bit], later, count as i64) {
+            let winner = winner(&energies);
+            match LIMITS.certain(BITS[bit], later, count as i64) {
                 None => undecided[count] += usize::from(winner.is_none()),
                 expected => assert_eq!(winner, expected, "{}", what()),
             }
-            let least = energies.map(|energy| energy.least);
-            assert!(least[0].max(least[1]) >= GOOD_ENERGY, "{}", what());
+            assert!(is_good(&energies), "{}", what());
         }
     }
     undecided
@@ -67,7 +61,7 @@ fn the_certain_tone_wins_at_every_phase() {
     for band in BANDS {
         let undecided = undecided(band);
         let found = (0..32).filter(|&count| undecided[count] > 0);
-        let drawn = (0..32).filter(|&count| certain(0, 1, count as i64).is_none());
+        let drawn = (0..32).filter(|&count| LIMITS.certain(0, 1, count as i64).is_none());
         assert!(found.eq(drawn), "band {band}: {undecided:?}");
     }
 }
@@ -90,9 +84,7 @@ fn characters_are_reported_where_the_last_slot_is_drawn() {
     let mut random = Random::new(77);
     for band in BANDS {
         let message = every_character(&mut random);
-        let recording = disturbed(&sending(band, &message), |_| {
-            around_0(&mut random, DISTURBANCE)
-        });
+        let recording = disturbed(&sending(band, &message), |_| around_0(&mut random, MOST));
         let places = event_places(band, &recording);
         assert_eq!(places.len(), message.len());
         for (number, place) in places.into_iter().enumerate() {

@@ -4,11 +4,10 @@
 mod common;
 
 use common::receiver::{assert_events, read};
-use common::recording::{
-    around_0, as_events, disturbed, every_character, sending, surrounded, DISTURBANCE,
-};
+use common::recording::{around_0, as_events, disturbed, every_character, sending, surrounded};
 use common::states::steps;
 use common::{sines, BANDS};
+use reference::disturbance::MOST;
 use reference::random::Random;
 
 /// Reads every character under the disturbance, which gets the random numbers
@@ -28,26 +27,24 @@ fn read_under(what: &str, seed: u64, mut number: impl FnMut(&mut Random, u8, usi
 
 #[test]
 fn constant() {
-    read_under("always 100", 24, |_, _, _| DISTURBANCE);
-    read_under("always -100", 25, |_, _, _| -DISTURBANCE);
+    read_under("always 100", 24, |_, _, _| MOST);
+    read_under("always -100", 25, |_, _, _| -MOST);
 }
 
 #[test]
 fn alternating() {
     for period in [1, 2, 3, 4, 5, 7, 8, 16, 32] {
         let what = format!("turning after {period}");
-        read_under(&what, 26, |_, _, place| {
-            DISTURBANCE * [1, -1][place / period % 2]
-        });
+        read_under(&what, 26, |_, _, place| MOST * [1, -1][place / period % 2]);
     }
 }
 
 #[test]
 fn random() {
     for seed in 27..32 {
-        read_under("random", seed, |random, _, _| around_0(random, DISTURBANCE));
+        read_under("random", seed, |random, _, _| around_0(random, MOST));
         read_under("random signs", seed, |random, _, _| {
-            DISTURBANCE * [1, -1][random.below(2)]
+            MOST * [1, -1][random.below(2)]
         });
     }
 }
@@ -56,7 +53,7 @@ fn random() {
 fn tones(phase: usize) -> [i16; 2] {
     let sine = sines().s(phase);
     let sign = if sine < 0 { -1 } else { 1 };
-    [sine / 60, DISTURBANCE * sign]
+    [sine / 60, MOST * sign]
 }
 
 /// One of the two tones all the time.

@@ -7,11 +7,11 @@ use common::receiver::{
 };
 use common::recording::{
     around_0, as_events, disturbed, every_character, random_blocks, sending, surrounded,
-    DISTURBANCE,
 };
 use common::refused::{refused, too_long};
 use common::states::{any_block, any_samples, hostile_state};
 use common::BANDS;
+use reference::disturbance::MOST;
 use reference::library::Numbers;
 use reference::random::Random;
 
@@ -58,7 +58,7 @@ fn recordings() {
 
 #[test]
 fn disturbed_recordings() {
-    read_recordings(44, DISTURBANCE);
+    read_recordings(44, MOST);
 }
 
 /// The entry makes no difference to what goes on from block to block: events

@@ -6,10 +6,10 @@ use super::{
     draw_name, draw_range, middle, x, BAND, CHARACTER, DARK, DASHES, GOOD_LEVEL, OUTLINE, PLOT,
     SENT, SLOT, TONES, UNDECIDED,
 };
-use crate::disturbance::{Band, Energy};
+use crate::disturbance::{Energy, Pair, MOST};
 use crate::receiver::{GOOD_ENERGY, WINDOW};
 use crate::sine::Sines;
-use crate::transmitter::{sending, IDLE_SAMPLES};
+use crate::transmitter::{sending, IDLE_SAMPLES, STEPS};
 
 /// The root of an energy at the lower edge, and the tenths of a pixel that
 /// stand for ten millions.
@@ -34,11 +34,11 @@ pub(super) fn draw_plot(drawing: &mut Drawing, sines: &Sines) {
 /// The energies of space and mark for each t.
 fn energies(sines: &Sines) -> Vec<[Energy; 2]> {
     let samples = sending(sines, BAND, &[CHARACTER]);
-    let band = Band::new(sines, BAND);
+    let tones = Pair::new(sines, STEPS[usize::from(BAND) - 1], MOST);
     let energies = |t: i64| {
         let end = usize::try_from(IDLE_SAMPLES as i64 + t).expect("the leader is longer");
         let window: &[i16; WINDOW] = samples[..end].last_chunk().expect("a whole window");
-        band.energies(window)
+        tones.energies(window)
     };
     (FIRST..=LAST).map(energies).collect()
 }

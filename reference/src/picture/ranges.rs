@@ -2,7 +2,7 @@
 //! the window: where a tone wins for certain, and where the receiver looks.
 
 use super::CHARACTER;
-use crate::disturbance::{certain, FIRST_OF_LATER, LAST_OF_EARLIER};
+use crate::disturbance::LIMITS;
 use crate::receiver::{BIT, HALF_BIT, LAST_SLOT};
 use crate::transmitter::framed;
 
@@ -33,7 +33,7 @@ pub(super) fn certain_ranges() -> Vec<(Option<u8>, Range)> {
     let mut ranges: Vec<(Option<u8>, Range)> = Vec::new();
     for t in FIRST..=LAST {
         let cell = t.div_euclid(CELL);
-        let winner = certain(bit(cell - 1), bit(cell), t.rem_euclid(CELL));
+        let winner = LIMITS.certain(bit(cell - 1), bit(cell), t.rem_euclid(CELL));
         match ranges.last_mut() {
             Some((before, range)) if *before == winner => range.1 = t,
             _ => ranges.push((winner, (t, t))),
@@ -44,7 +44,7 @@ pub(super) fn certain_ranges() -> Vec<(Option<u8>, Range)> {
 
 /// Where the start bit is found: not while mark wins for certain, and at the
 /// latest where space does.
-pub(super) const FOUND: Range = (LAST_OF_EARLIER + 1, FIRST_OF_LATER);
+pub(super) const FOUND: Range = (LIMITS.last_of_earlier + 1, LIMITS.first_of_later);
 
 /// Where a slot is taken: half a bit behind that, and a bit for each slot.
 pub(super) fn slot_range(slot: u8) -> Range {

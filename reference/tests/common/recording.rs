@@ -1,11 +1,9 @@
 //! Sendings of the reference's transmitter, and recordings of them.
 
 use super::sines;
+use reference::disturbance::MOST;
 use reference::random::Random;
 use reference::transmitter;
-
-/// The most that a disturbance adds or takes.
-pub const DISTURBANCE: i16 = 100;
 
 /// Leader, characters and trailer.
 pub fn sending(band: u8, message: &[u8]) -> Vec<i16> {
@@ -21,7 +19,7 @@ pub fn surrounded(sending: &[i16], before: usize, behind: usize) -> Vec<i16> {
 pub fn disturbed(recording: &[i16], mut number: impl FnMut(usize) -> i16) -> Vec<i16> {
     let added = |(place, &sample): (usize, &i16)| {
         let number = number(place);
-        assert!(number.abs() <= DISTURBANCE);
+        assert!(number.abs() <= MOST);
         sample + number
     };
     recording.iter().enumerate().map(added).collect()
