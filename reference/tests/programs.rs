@@ -1,10 +1,12 @@
-//! The programs `sending` and `echo`, run on messages of many lengths.
+//! The programs `sending`, `echo` and `disturbed`, run on messages of many
+//! lengths.
 
 mod common;
 
-use common::sines;
+use common::{disturbed, sines};
 use reference::random::Random;
 use reference::transmitter::{characters, idle, open};
+use std::fs;
 use std::io::Write;
 use std::process::{Command, Stdio};
 
@@ -85,4 +87,32 @@ fn every_byte() {
     for message in all.chunks(100) {
         check(message);
     }
+}
+
+fn check_disturbed(message: &[u8]) {
+    let found = printed("disturbed", message);
+    let expected = disturbed::printed(message);
+    let count = message.len();
+    assert!(found == expected, "disturbed, {count} bytes");
+}
+
+/// The input with which the program is run where it is proved, and the output
+/// that it is held to there.
+#[test]
+fn the_files_of_disturbed() {
+    let folder = concat!(env!("CARGO_MANIFEST_DIR"), "/../crates/disturbed/");
+    let file = |name| fs::read(format!("{folder}{name}")).expect("the file is there");
+    let message = file("stdin");
+    assert!(file("stdout") == disturbed::printed(&message));
+    check_disturbed(&message);
+}
+
+#[test]
+fn disturbed_messages() {
+    let mut random = Random::new(8);
+    for count in [0, 1, 2, 99, 101, 5_000] {
+        check_disturbed(&random.bytes(count));
+    }
+    let longest = [&[0, 255], &random.bytes(96)[..], &[255, 0]].concat();
+    check_disturbed(&longest);
 }

@@ -4,7 +4,9 @@
 mod common;
 
 use common::receiver::{assert_events, read};
-use common::recording::{around_0, as_events, disturbed, every_character, sending, surrounded};
+use common::recording::{
+    around_0, as_events, bits, disturbed, every_character, sending, surrounded,
+};
 use common::states::steps;
 use common::{sines, BANDS};
 use reference::disturbance::MOST;
@@ -99,15 +101,4 @@ fn shaped_like_the_other_tone() {
             }
         }
     }
-}
-
-/// The bits of a sending: leader, characters and trailer.
-fn bits(message: &[u8]) -> Vec<usize> {
-    let mut bits = vec![1; 3];
-    for byte in message {
-        let data = (0..8).map(|place| usize::from(byte / 2_u8.pow(place) % 2));
-        bits.extend([0].into_iter().chain(data).chain([1]));
-    }
-    bits.extend([1; 3]);
-    bits
 }

@@ -24,19 +24,19 @@ pub(crate) fn random_signs() -> [i16; LONGEST] {
     let mut x: u32 = 1;
     let mut i: usize = 0;
     while i < LONGEST {
-        numbers[i] = hundred(32768 < x);
+        numbers[i] = signed_hundred(32768 < x);
         x = next_number(x);
         i += 1;
     }
     numbers
 }
 
-fn hundred(positive: bool) -> i16 {
+fn signed_hundred(positive: bool) -> i16 {
     if positive { 100 } else { -100 }
 }
 
 fn sign_at(phase: u16) -> i16 {
-    hundred(0 <= sine::sine(phase as usize))
+    signed_hundred(0 <= sine::sine(phase as usize))
 }
 
 fn next_phase(phase: u16, step: u16) -> u16 {

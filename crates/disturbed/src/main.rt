@@ -1,8 +1,10 @@
 // Sends the message on standard input and reads it back under disturbances that are as large as the promise allows: five of them, in
-// both bands, in blocks of four sizes. Each run prints a line: its band, its disturbance, the size of its blocks, and what was read.
+// both bands, in blocks of four sizes. Each run prints a line: its band, its disturbance, the size of its blocks, a sum over
+// the samples as they were read, which shows what was added, and what was read.
 // `loopback` is proved to give the message in all of them; here it is run.
 mod disturbance;
 mod run;
+mod sum;
 
 use crate::disturbance::LONGEST;
 use crate::disturbance::random_signs;
@@ -20,7 +22,7 @@ fn main() {
     refused(&bytes[..n]);
 }
 
-// Every disturbance in a band. The first three are the signs of the message itself, sent with other tones: with space for both bits,
+// The five disturbances in a band. The first three are the signs of the message itself, sent with other tones: with space for both bits,
 // which helps space against every mark; with mark for both, which helps mark against every space; and with the two exchanged, which
 // helps the wrong one in every bit.
 fn in_band(band: u8, message: &[u8]) {
@@ -58,7 +60,7 @@ fn in_blocks(band: u8, message: &[u8], name: &[u8], disturbance: &[i16]) {
     run(band, message, name, disturbance, 16384);
 }
 
-// A disturbance that is too large at one sample, a band that there is not, and blocks of no samples.
+// A disturbance that is too large at one sample, a number that is no band, and blocks of no samples.
 fn refused(message: &[u8]) {
     let mut large = [100i16; LONGEST];
     large[0] = 101;

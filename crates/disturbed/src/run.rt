@@ -1,5 +1,7 @@
 // One run of `loopback`, and its line.
 use crate::disturbance::LONGEST;
+use crate::sum::print_signed;
+use crate::sum::weighed_sum;
 use libc::STDOUT_FILENO;
 
 pub(crate) fn run(band: u8, message: &[u8], name: &[u8], disturbance: &[i16], size: usize) {
@@ -8,7 +10,9 @@ pub(crate) fn run(band: u8, message: &[u8], name: &[u8], disturbance: &[i16], si
     let answer = loopback::loopback(band, message, disturbance, size, &mut samples, &mut events);
     print_call(band, name, size);
     if answer.number == 0 {
-        io::write_all(STDOUT_FILENO, b"read ");
+        io::write_all(STDOUT_FILENO, b"sum ");
+        print_signed(weighed_sum(&samples));
+        io::write_all(STDOUT_FILENO, b", read ");
         print_front(&events, answer.count);
     } else {
         io::write_all(STDOUT_FILENO, b"refused ");

@@ -10,6 +10,17 @@ pub fn sending(band: u8, message: &[u8]) -> Vec<i16> {
     transmitter::sending(sines(), band, message)
 }
 
+/// The bits of a sending: leader, characters and trailer.
+pub fn bits(message: &[u8]) -> Vec<usize> {
+    let mut bits = vec![1; 3];
+    for byte in message {
+        let data = (0..8).map(|place| usize::from(byte / 2_u8.pow(place) % 2));
+        bits.extend([0].into_iter().chain(data).chain([1]));
+    }
+    bits.extend([1; 3]);
+    bits
+}
+
 /// The sending with silence before and behind it.
 pub fn surrounded(sending: &[i16], before: usize, behind: usize) -> Vec<i16> {
     [&vec![0; before], sending, &vec![0; behind]].concat()
