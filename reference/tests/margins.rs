@@ -31,13 +31,13 @@ const TONES: [Tones; 4] = [
         largest: 143,
     },
     Tones {
-        name: "V.21 low",
+        name: "V.21 channel 1",
         steps: [236, 196],
         stride: 128,
         largest: 122,
     },
     Tones {
-        name: "V.21 high",
+        name: "V.21 channel 2",
         steps: [370, 330],
         stride: 320,
         largest: 133,
@@ -92,7 +92,7 @@ fn no_limit_can_be_closer() {
         last_silent: LIMITS.last_silent + 1,
         ..LIMITS
     };
-    assert_eq!(failing(earlier), ["band 1", "band 2", "V.21 low"]);
-    assert_eq!(failing(later), ["band 1", "band 2", "V.21 low"]);
+    assert_eq!(failing(earlier), ["band 1", "band 2", "V.21 channel 1"]);
+    assert_eq!(failing(later), ["band 1", "band 2", "V.21 channel 1"]);
     assert_eq!(failing(silent), ["band 1"]);
 }
