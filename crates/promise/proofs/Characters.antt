@@ -104,12 +104,12 @@ module _ (c : ℕ) (small : c < 256) (Y : List ℕ) (t : ℕ) (d : Decision) (h 
   not-both p q = false≢true (ap (λ (x : Decision). x .space) (sym p ∙ q))
 
   step-before : t ≤ 19 → (s : Control) (X : List ℕ) → BetweenCharacters (c ∷ Y) t s X → Moves Next s d X
-  step-before l s X r = at-first (decLe t 14) s X r
+  step-before l s X r = by-count (decLe t 14) s X r
     where
-      at-first : Dec (t ≤ 14) → (s : Control) (X : List ℕ) → BetweenCharacters (c ∷ Y) t s X → Moves Next s d X
-      at-first (yes p) s X r = moves-on (λ s X r. before (omega arith) r) (stays-between (c ∷ Y) t d (h .mark-before p) s X r)
-      at-first (no p) s X (stop-due byte wait a b) = absurd (omega arith)
-      at-first (no p) s X none-due = ⊎-elim mark space (either-bit d (h .good))
+      by-count : Dec (t ≤ 14) → (s : Control) (X : List ℕ) → BetweenCharacters (c ∷ Y) t s X → Moves Next s d X
+      by-count (yes p) s X r = moves-on (λ s X r. before (omega arith) r) (stays-between (c ∷ Y) t d (h .mark-before p) s X r)
+      by-count (no p) s X (stop-due byte wait a b) = absurd (omega arith)
+      by-count (no p) s X none-due = ⊎-elim mark space (either-bit d (h .good))
         where
           mark : d ≡ reads 1 → Moves Next (at 32 Searching) d (c ∷ Y)
           mark e = searches d e (go (decLe t 18))
