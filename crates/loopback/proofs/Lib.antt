@@ -1,4 +1,3 @@
 pub mod Refusals
 pub mod Sending
 pub mod Receiving
-pub mod Promised

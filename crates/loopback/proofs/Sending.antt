@@ -6,7 +6,7 @@ use Prim.Native.Nat.{ℕ, _+_, _*_, _≤_}
 use native.Mathlib.Nat.{zero-add, le-trans}
 use native.Mathlib.Omega.{arith}
 use lib.IntN.{ℤ}
-use lib.ListN.{length, take, drop, drop-of-length-le, length-append}
+use lib.ListN.{length, take, drop, drop-of-length-le}
 use lib.Seq.{sets, take-at, drop-drop}
 use Rattle.integers.specs.Near.{altered}
 use Rattle.integers.specs.Sums.{Bounded}
@@ -17,9 +17,9 @@ use Rattle.tones.specs.declared.Tones.{Tones}
 use Rattle.tones.specs.Bands.{tonesOf}
 use Rattle.transmitter.specs.declared.Transmitter.{Transmitter}
 use Rattle.transmitter.specs.declared.Sent.{Sent}
-use Rattle.transmitter.specs.Samples.{sendBits, phaseBits, bitSteps, idleBits, charactersBits}
+use Rattle.transmitter.specs.Samples.{sendBits, bitSteps, idleBits, charactersBits, messageBits}
 use Rattle.transmitter.specs.Calls.{fresh, samplesOf, afterBits, sent}
-use Rattle.transmitter.proofs.Laws.{length-bits, length-characters, send-bound, send-bits-append}
+use Rattle.transmitter.proofs.Laws.{length-bits, length-characters, length-message, send-bound, message-parts}
 use Rattle.loopback.specs.Loopback.{samplesFor, recordedOf, Disturbs}
 
 -- ---- an accepted call: the buffer was `part` and is `now`
@@ -101,11 +101,7 @@ module _ (band : ℕ) (cs : List ℕ) (ds lent : List ℤ) where
       (sets-parts (samplesOf (fresh band) idleBits) (samplesOf begun (charactersBits cs)) (samplesOf ended idleBits) ds lent (320 * length cs)
       (length-bits t 0 idleBits) (length-bits t (begun .phase) (charactersBits cs) ∙ characters-count cs))
       ∙ ap (λ (xs : List ℤ). sets lent 0 (altered xs ds))
-      (sym (send-bits-append t 0 idleBits (charactersBits cs ++ idleBits)
-      ∙ ap (λ (xs : List ℤ). sendBits t 0 idleBits ++ xs) (send-bits-append t (phaseBits t 0 idleBits) (charactersBits cs) idleBits)))
+      (sym (message-parts t 0 cs))
 
   pub recorded-length : length (recordedOf band cs ds) ≡ samplesFor (length cs)
-  recorded-length =
-      length-altered (sendBits t 0 (idleBits ++ (charactersBits cs ++ idleBits))) ds
-      ∙ length-bits t 0 (idleBits ++ (charactersBits cs ++ idleBits))
-      ∙ omega (arith, length-append (charactersBits cs) idleBits, length-characters cs)
+  recorded-length = length-altered (sendBits t 0 (messageBits cs)) ds ∙ length-message t 0 cs

@@ -12,7 +12,7 @@ use Rattle.integers.specs.Sums.{Bounded}
 use Rattle.calls.specs.Outcome.{Outcome, refused, accepted}
 use Rattle.tones.specs.Bands.{isBand, tonesOf}
 use Rattle.tones.specs.Samples.{areBetween}
-use Rattle.transmitter.specs.Samples.{sendBits, idleBits, charactersBits}
+use Rattle.transmitter.specs.Samples.{sendBits, messageBits}
 
 -- the samples of leader, n characters and trailer
 abbrev pub samplesFor : ℕ → ℕ
@@ -20,7 +20,7 @@ samplesFor n = 192 + 320 * n
 
 -- each with the number at its place added
 abbrev pub recordedOf : (band : ℕ) (characters : List ℕ) (disturbance : List ℤ) → List ℤ
-recordedOf band characters disturbance = altered (sendBits (tonesOf band) 0 (idleBits ++ (charactersBits characters ++ idleBits))) disturbance
+recordedOf band characters disturbance = altered (sendBits (tonesOf band) 0 (messageBits characters)) disturbance
 
 -- at most 100 characters, and blocks of 1 to 16,384 samples
 abbrev pub isSize : (characters size : ℕ) → Bool

@@ -6,3 +6,4 @@ pub mod Phases
 pub mod Recording
 pub mod Promise
 pub mod Possible
+pub mod Message

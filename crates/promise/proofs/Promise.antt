@@ -10,7 +10,7 @@ use Rattle.calls.specs.Lists.{acceptedCalls, each}
 use Rattle.calls.proofs.Lists.{joined-each}
 use Rattle.tones.specs.declared.Tones.{Tones}
 use Rattle.tones.specs.Bands.{tonesOf}
-use Rattle.transmitter.specs.Samples.{sendBits, idleBits, charBits, charactersBits}
+use Rattle.transmitter.specs.Samples.{sendBits, idleBits, charBits, charactersBits, messageBits}
 use Rattle.transmitter.specs.Calls as transmitter
 use Rattle.transmitter.specs.Lists as sending
 use Rattle.transmitter.proofs.Lists.{samples-written}
@@ -41,7 +41,7 @@ end-bits calls (text bytes lent {calls = rest} e) =
     ∙ sym (append-assoc (charactersBits bytes) (charactersBits (each bytesOf rest)) idleBits)
     ∙ ap (λ (l : List ℕ). l ++ idleBits) (sym (characters-append bytes (each bytesOf rest)))
 
-sending-bits : (calls : List sending.Call) → IsSending calls → each sending.bitsOf calls ≡ idleBits ++ (charactersBits (each bytesOf calls) ++ idleBits)
+sending-bits : (calls : List sending.Call) → IsSending calls → each sending.bitsOf calls ≡ messageBits (each bytesOf calls)
 sending-bits calls (leader lent {calls = rest} e) = ap (λ (l : List ℕ). idleBits ++ l) (end-bits rest e)
 
 -- ---- one transmission
@@ -53,13 +53,13 @@ recording-near {samples = samples} r = rw (r .sum) (near-altered (silence (r .be
 
 -- the samples of a sending are those of the leader, the characters and the trailer
 pub sent-samples : (band : ℕ) (calls : List sending.Call) → IsSending (acceptedCalls sending.callOf (transmitter.fresh band) calls)
-    → sending.samplesWritten (transmitter.fresh band) calls ≡ sendBits (tonesOf band) 0 (idleBits ++ (charactersBits (charactersSent band calls) ++ idleBits))
+    → sending.samplesWritten (transmitter.fresh band) calls ≡ sendBits (tonesOf band) 0 (messageBits (charactersSent band calls))
 sent-samples band calls shape =
     samples-written (transmitter.fresh band) calls
     ∙ ap (sendBits (tonesOf band) 0)
     (joined-each sending.callOf sending.bitsOf (transmitter.fresh band) calls
     ∙ sending-bits (acceptedCalls sending.callOf (transmitter.fresh band) calls) shape
-    ∙ ap (λ (cs : List ℕ). idleBits ++ (charactersBits cs ++ idleBits)) (sym (joined-each sending.callOf bytesOf (transmitter.fresh band) calls)))
+    ∙ ap messageBits (sym (joined-each sending.callOf bytesOf (transmitter.fresh band) calls)))
 
 module _ {noise : ℕ} (t : Transmission noise) (M : Margins noise (tonesOf (t .band))) where
   abbrev tones : Tones
@@ -74,7 +74,7 @@ module _ {noise : ℕ} (t : Transmission noise) (M : Margins noise (tonesOf (t .
       samples : List ℤ
       samples = reading.samplesRead (receiver.fresh (t .band)) (t .blocks)
 
-      near : Near noise (silence (t .recording .before) ++ (sendBits tones 0 (idleBits ++ (charactersBits (characters t) ++ idleBits)) ++ silence (t .recording .after))) samples
+      near : Near noise (silence (t .recording .before) ++ (sendBits tones 0 (messageBits (characters t)) ++ silence (t .recording .after))) samples
       near = rw (t .read, ← sent-samples (t .band) (t .sent) (t .shape)) (recording-near (t .recording))
 
   pub no-fault : AreBytes (events t)

@@ -3,7 +3,8 @@
 use mathlib.Core.Path.{_≡_, refl}
 use mathlib.Core.Bool.{true, false}
 use mathlib.Mathlib.Data.Bool.Basic.{and-elim-left, and-elim-right}
-use Prim.Native.Nat.{ℕ, _-_, _≤_}
+use Prim.Native.Nat.{ℕ, _-_, _<_, _≤_}
+use native.Mathlib.Omega.{arith}
 use borrow.Author.Tests.{leb-true}
 use lib.Dec.{leb}
 use lib.ListN.{length, getD}
@@ -20,6 +21,11 @@ in-band b h =
       low = leb-true 1 b (and-elim-left (leb 1 b) (leb b (length bands)) h);
       high = leb-true b (length bands) (and-elim-right (leb 1 b) (leb b (length bands)) h);
     }
+
+-- a band is written with one digit
+pub band-digit : (b : ℕ) → isBand b ≡ true → b < 10
+unfolding bands
+band-digit b h = omega (arith, in-band b h .high)
 
 pub tones-band : (b : ℕ) → isBand b ≡ true → tonesOf b ≡ getD bands (b - 1) originate
 unfolding tonesOf

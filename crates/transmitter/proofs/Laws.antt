@@ -16,7 +16,7 @@ use Rattle.sine.proofs.Laws.{S-same, S-bound}
 use Rattle.sine.proofs.Wave.{wave-none, wave-more, wave-same}
 use Rattle.tones.specs.declared.Tones.{Tones}
 use Rattle.tones.specs.Bands.{stepOf}
-use Rattle.transmitter.specs.Samples.{send, phaseAfter, bitSteps, sendBits, phaseBits, dataBits, charBits, charactersBits}
+use Rattle.transmitter.specs.Samples.{send, phaseAfter, bitSteps, sendBits, phaseBits, idleBits, dataBits, charBits, charactersBits, messageBits}
 
 -- ---- steps
 
@@ -124,6 +124,18 @@ pub length-characters : (bytes : List ℕ) → length (charactersBits bytes) ≡
 unfolding charactersBits
 length-characters [] = refl
 length-characters (x ∷ xs) = length-append (charBits x) (charactersBits xs) ∙ omega (arith, length-char x, length-characters xs)
+
+pub length-message : (t : Tones) (p : ℕ) (bytes : List ℕ) → length (sendBits t p (messageBits bytes)) ≡ 192 + 320 * length bytes
+length-message t p bytes =
+    length-bits t p (messageBits bytes) ∙ omega (arith, length-append (charactersBits bytes) idleBits, length-characters bytes)
+
+-- a message in its three parts
+pub message-parts : (t : Tones) (p : ℕ) (bytes : List ℕ) → sendBits t p (messageBits bytes)
+    ≡ sendBits t p idleBits
+    ++ (sendBits t (phaseBits t p idleBits) (charactersBits bytes) ++ sendBits t (phaseBits t (phaseBits t p idleBits) (charactersBits bytes)) idleBits)
+message-parts t p bytes =
+    send-bits-append t p idleBits (charactersBits bytes ++ idleBits)
+    ∙ ap (λ (xs : List ℤ). sendBits t p idleBits ++ xs) (send-bits-append t (phaseBits t p idleBits) (charactersBits bytes) idleBits)
 
 -- the bits of a character by number: 0 the start bit, 1 to 8 the data bits, and then the stop bit
 abbrev pub bitAt : ℕ → ℕ → ℕ

@@ -51,3 +51,7 @@ charBits byte = 0 ∷ dataBits 8 byte ++ (1 ∷ [])
 unfoldable pub charactersBits : List ℕ → List ℕ
 charactersBits [] = []
 charactersBits (byte ∷ bytes) = charBits byte ++ charactersBits bytes
+
+-- a message: leader, characters and trailer
+abbrev pub messageBits : List ℕ → List ℕ
+messageBits bytes = idleBits ++ (charactersBits bytes ++ idleBits)

@@ -17,10 +17,10 @@ use Rattle.tones.proofs.Samples.{between-bound}
 use Rattle.receiver.specs.Step.{eventsAfter}
 use Rattle.receiver.specs.Calls.{fresh}
 use Rattle.promise.specs.Recordings.{AreBytes}
+use Rattle.promise.proofs.Message.{are-bytes, message-range, message-read}
 use Rattle.loopback.specs.Loopback.{recordedOf}
 use Rattle.loopback.proofs.Refusals.{Allowed, allowed, loopback-refused, loopback-accepted}
 use Rattle.loopback.proofs.Sending.{recorded-length}
-use Rattle.loopback.proofs.Promised.{are-bytes, recorded-range, read-back}
 use Rattle.loopback.proofs.loopback.Statement.{statement}
 use Rattle.loopback.proofs.loopback.Tie as tie
 
@@ -55,11 +55,11 @@ module _ (c : tie.Else1) where
   small = between-bound 99 ds (all-allowed .small)
 
   range : areSamples recorded ≡ true
-  range = recorded-range band (all-allowed .band-known) cs bytes (all-allowed .few) ds small
+  range = message-range band (all-allowed .band-known) cs bytes (all-allowed .few) ds small
 
   -- the promise
   promised : eventsAfter (fresh band) recorded ≡ cs
-  promised = read-back band (all-allowed .band-known) cs bytes (all-allowed .few) ds small
+  promised = message-read band (all-allowed .band-known) cs bytes (all-allowed .few) ds small
 
 -- ---- what was sent is at the buffer's front
 

@@ -1,5 +1,5 @@
--- What the promise says of a loopback: read by the step rule, the disturbed samples give the characters. The sending and a reading of
--- it through the second entry make a transmission, of which demand 3 speaks.
+-- What the promise says of a message that is sent by one characters call and disturbed: read by the step rule, the samples give the
+-- characters. The sending and a reading of it through the second entry make a transmission, of which demand 3 speaks.
 -- Assumes nothing.
 use mathlib.Core.Path.{_≡_, refl, sym, ap, ap₂, _∙_}
 use mathlib.Core.Bool.{true}
@@ -14,7 +14,7 @@ use Rattle.integers.specs.Sums.{Bounded}
 use Rattle.calls.specs.Lists.{each}
 use Rattle.tones.specs.Bands.{isBand, tonesOf}
 use Rattle.tones.specs.Samples.{areSamples}
-use Rattle.transmitter.specs.Samples.{sendBits, idleBits, charactersBits}
+use Rattle.transmitter.specs.Samples.{sendBits, messageBits}
 use Rattle.transmitter.specs.Calls as transmitter
 use Rattle.transmitter.specs.Lists as sending
 use Rattle.receiver.specs.Step.{eventsAfter}
@@ -22,11 +22,10 @@ use Rattle.receiver.specs.Calls.{fresh}
 use Rattle.receiver.specs.Lists.{inPlace}
 use Rattle.receiver.proofs.Lists.{one-reading}
 use Rattle.margin.specs.Windows.{disturbance}
 use Rattle.promise.specs.Recordings.{AreBytes, silence, Transmission}
 use Rattle.promise.specs.Possible.{Block, sendingCalls, IsText, Possible}
 use Rattle.promise.proofs.Promise.{sent-samples, demand-3}
 use Rattle.promise.proofs.Possible.{message-sent, is-sending, recorded-samples, not-vacuous}
-use Rattle.loopback.specs.Loopback.{recordedOf}
 
 -- the numbers of a list of bytes
 pub are-bytes : (cs : List ℕ) → ((i : ℕ) → getD cs i 0 < 256) → AreBytes cs
@@ -49,6 +48,9 @@ blocks-short [] = none
 blocks-short (x ∷ xs) = let h : 1 ≤ 16384 = omega arith in more h (blocks-short xs)
 
 module _ (band : ℕ) (known : isBand band ≡ true) (cs : List ℕ) (bytes : AreBytes cs) (few : length cs ≤ 100) (ds : List ℤ) (small : Bounded disturbance ds) where
+  abbrev recorded : List ℤ
+  recorded = altered (sendBits (tonesOf band) 0 (messageBits cs)) ds
+
   abbrev texts : List (List ℕ)
   texts = cs ∷ []
 
@@ -59,30 +61,30 @@ module _ (band : ℕ) (known : isBand band ≡ true) (cs : List ℕ) (bytes : Ar
   joined = append-nil cs
 
   -- the sending by a leader, one characters call and a trailer
-  sent : sending.samplesWritten (transmitter.fresh band) (sendingCalls texts) ≡ sendBits (tonesOf band) 0 (idleBits ++ (charactersBits cs ++ idleBits))
+  sent : sending.samplesWritten (transmitter.fresh band) (sendingCalls texts) ≡ sendBits (tonesOf band) 0 (messageBits cs)
   sent =
       sent-samples band (sendingCalls texts) (is-sending band known texts is-text)
-      ∙ ap (λ (l : List ℕ). sendBits (tonesOf band) 0 (idleBits ++ (charactersBits l ++ idleBits))) (message-sent band known texts is-text ∙ joined)
+      ∙ ap (λ (l : List ℕ). sendBits (tonesOf band) 0 (messageBits l)) (message-sent band known texts is-text ∙ joined)
 
   -- disturbed, without silence around it
-  sum : recordedOf band cs ds ≡ altered (silence 0 ++ (sending.samplesWritten (transmitter.fresh band) (sendingCalls texts) ++ silence 0)) ds
+  sum : recorded ≡ altered (silence 0 ++ (sending.samplesWritten (transmitter.fresh band) (sendingCalls texts) ++ silence 0)) ds
   sum = ap (λ (xs : List ℤ). altered xs ds) (sym (append-nil _ ∙ sent))
 
-  pub recorded-range : areSamples (recordedOf band cs ds) ≡ true
-  recorded-range =
-      recorded-samples (transmitter.fresh band) (sendingCalls texts) (recordedOf band cs ds)
+  pub message-range : areSamples recorded ≡ true
+  message-range =
+      recorded-samples (transmitter.fresh band) (sendingCalls texts) recorded
       (record { before = 0; after = 0; added = ds; small = small; sum = sum })
 
-  read : Possible band texts (blocks (recordedOf band cs ds))
+  read : Possible band texts (blocks recorded)
   read =
-      not-vacuous band known texts is-text 0 0 ds small (blocks (recordedOf band cs ds)) (blocks-short (recordedOf band cs ds))
-      (blocks-join (recordedOf band cs ds) ∙ sum)
+      not-vacuous band known texts is-text 0 0 ds small (blocks recorded) (blocks-short recorded)
+      (blocks-join recorded ∙ sum)
 
-  pub read-back : eventsAfter (fresh band) (recordedOf band cs ds) ≡ cs
-  read-back =
+  pub message-read : eventsAfter (fresh band) recorded ≡ cs
+  message-read =
       let t : Transmission disturbance = read .transmission in
       sym
       (one-reading (fresh (t .band)) (t .blocks) .events
       ∙ ap₂ (λ (b : ℕ) (xs : List ℤ). eventsAfter (fresh b) xs) (read .in-band)
-      (t .read ∙ read .recorded ∙ blocks-join (recordedOf band cs ds)))
+      (t .read ∙ read .recorded ∙ blocks-join recorded))
       ∙ demand-3 t t .first ∙ read .message ∙ joined

@@ -1,0 +1,61 @@
+-- `sheet::reader::fill` meets its contract.
+-- Assumes nothing.
+use Prim.Native.Nat.{_-_}
+use Rattle.sheet.proofs.Passes.{Filled, filled-start, filled-room, filled-more, filled-all}
+use lib.ListN.{length}
+use native.Mathlib.Omega.{arith}
+use Rattle.sheet.proofs.reader.fill.Statement.{statement}
+use Rattle.sheet.proofs.reader.fill.Tie as tie
+
+abbrev Inv-loop : tie.InvT-loop
+Inv-loop lines out₀ line₀ count₀ i₀ out line count i = Filled lines out₀ out line count i
+
+abbrev μ-loop : tie.MeasureT-loop
+μ-loop lines out₀ line₀ count₀ i₀ out line count i = length lines - i
+
+loop-holds : tie.Need-loop-holds Inv-loop μ-loop
+loop-holds c = filled-start (c .before .args .lines .now) (c .before .args .out .now)
+
+shared-slice-read-byte : tie.Need-shared-slice-read-byte Inv-loop μ-loop
+shared-slice-read-byte c = omega arith
+
+put-sample-requires : tie.Need-put-sample-requires Inv-loop μ-loop
+put-sample-requires c κs =
+    let l = c .before .before .before .loop in
+    (l .inv .small, filled-room _ _ _ _ _ _ (l .inv) (c .before .before .loop-test .taken) (c .before .before .before .before .before .pre))
+
+advance-requires : tie.Need-advance-requires Inv-loop μ-loop
+advance-requires c κs = tt
+
+add-i : tie.Need-add-i Inv-loop μ-loop
+add-i c = omega arith
+
+loop-less : tie.Need-loop-less Inv-loop μ-loop
+loop-less c = omega arith
+
+loop-again : tie.Need-loop-again Inv-loop μ-loop
+loop-again c =
+    let put = c .before .before .put-sample .ensures in
+    rw (put .0, put .1, c .advance .ensures) (filled-more _ _ _ _ _ _ (c .before .before .before .before .before .before .loop .inv) (c .before .before .before .before .before .loop-test .taken))
+
+same-length : tie.Need-same-length Inv-loop μ-loop
+same-length c = c .before .loop .inv .filling .long
+
+returns : tie.Need-returns Inv-loop μ-loop
+returns c = filled-all _ _ _ _ _ _ (c .before .loop .inv) (c .loop-test .left)
+
+pub fill-spec : {M : Type 1} → statement M
+fill-spec =
+    tie.close
+    (tie.spec
+    Inv-loop
+    μ-loop
+    loop-holds
+    shared-slice-read-byte
+    put-sample-requires
+    advance-requires
+    add-i
+    loop-less
+    loop-again
+    same-length
+    returns)

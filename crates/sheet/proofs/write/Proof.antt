@@ -1,0 +1,68 @@
+-- `sheet::write` meets its contract.
+-- Assumes nothing.
+use mathlib.Core.Path.{_≡_, sym, ap, _∙_}
+use mathlib.Core.List.{List}
+use Prim.Native.Nat.{ℕ}
+use native.Mathlib.Omega.{arith}
+use borrow.Author.Needs.{needs}
+use lib.IntN.{ℤ}
+use lib.ListN.{length}
+use lib.Seq.{sets}
+use Rattle.tones.proofs.Laws.{band-digit}
+use Rattle.sheet.specs.Text.{linesOf}
+use Rattle.sheet.specs.Calls.{writeNumber}
+use Rattle.sheet.proofs.Lengths.{length-sheet}
+use Rattle.sheet.proofs.Calls.{Writable, writable, write-refused, write-accepted}
+use Rattle.sheet.proofs.Writing.{sheet-filled}
+use Rattle.sheet.proofs.write.Statement.{statement}
+use Rattle.sheet.proofs.write.Tie as tie
+
+-- nothing is refused
+module _ (c : tie.Else1) where
+  abbrev band : ℕ
+  band = c .before .before .before .args .band
+
+  abbrev samples : List ℤ
+  samples = c .before .before .before .args .samples .now
+
+  abbrev out : List ℕ
+  out = c .before .before .before .args .out .now
+
+  none : writeNumber band samples (length out) ≡ 0
+  none = sym (c .before .refusal .ensures) ∙ c .if1 .left
+
+  allowed : Writable band samples (length out)
+  allowed = writable band samples (length out) none
+
+refusal-requires : tie.Need-refusal-requires
+refusal-requires c κs = tt
+
+returns : tie.Need-returns
+returns c =
+    let a = c .before .before .before .args in
+    write-refused (a .band) (a .samples .now) (a .out .now) (c .before .refusal .result) (c .before .refusal .ensures) (c .if1 .taken)
+
+put-head-requires : tie.Need-put-head-requires
+put-head-requires c κs = band-digit (band (c .before)) (allowed (c .before) .known)
+
+put-lines-requires : tie.Need-put-lines-requires
+put-lines-requires c κs =
+    let e = c .before .before .before .before .before in
+    omega (arith, length-sheet (band e) (samples e), allowed e .short)
+
+same-length : tie.Need-same-length
+same-length c = search needs
+
+returns-2 : tie.Need-returns-2
+returns-2 c =
+    let e = c .before .before .before .before .before .before .before .before in
+    let p = c .before .before .put-lines .ensures in
+    let count = p .0 ∙ sym (length-sheet (band e) (samples e)) in
+    let lent =
+    p .1
+    ∙ ap (λ (l : List ℕ). sets l 14 (linesOf (samples e))) (c .before .before .before .before .before .before .put-head .ensures)
+    ∙ sheet-filled (band e) (samples e) (out e) (allowed e .places) in
+    (λ i. record { number = 0; count = count i; state = tt; lent = lent i }) ∙ write-accepted (band e) (samples e) (out e) (none e)
+
+pub write-spec : {M : Type 1} → statement M
+write-spec = tie.close (tie.spec refusal-requires returns put-head-requires put-lines-requires same-length returns-2)

@@ -1,0 +1,71 @@
+-- `sheet::writer::magnitude` meets its contract.
+-- Assumes nothing.
+use mathlib.Core.Path.{_≡_}
+use mathlib.Core.Bool.{true, false, true≢false}
+use Prim.Native.Nat.{_≤_}
+use native.Mathlib.Nat.{zero-add, not-suc-le-zero}
+use native.Mathlib.Omega.{arith}
+use borrow.Author.Tests.{ltb-true}
+use lib.Dec.{T}
+use lib.IntN.{ℤ, pos, negsuc, natAbs, _-ℤ_}
+use lib.Signed.{ltZ, nonNeg, natAbs-le}
+use mir.Syntax.{w16, w32}
+use mir.Val.{SFits, toZ, ofZ}
+use mir.Facts.{toZ-ofZ}
+use Rattle.sheet.proofs.writer.magnitude.Statement.{statement}
+use Rattle.sheet.proofs.writer.magnitude.Tie as tie
+
+-- below 0 the difference from 0 is the size, elsewhere the number itself is
+negated : (z : ℤ) → ltZ z (pos 0) ≡ true → pos 0 -ℤ z ≡ pos (natAbs z)
+negated (pos n) e = absurd (not-suc-le-zero (ltb-true n 0 e))
+negated (negsuc n) e = rw zero-add
+
+kept : (z : ℤ) → ltZ z (pos 0) ≡ false → T (nonNeg z)
+kept (pos n) e = tt
+kept (negsuc n) e = absurd (true≢false e)
+
+module _ (z : ℤ) (fits : SFits w16 z) where
+  wide : SFits w32 z
+  wide = record { sfits = omega (arith, fits .sfits) }
+
+  -- 16 bits are held in 32
+  held : toZ w32 (ofZ w32 (toZ w16 (ofZ w16 z))) ≡ z
+  held = rw (toZ-ofZ {w = w16} fits) (toZ-ofZ {w = w32} wide)
+
+  small : natAbs z ≤ 32768
+  small = natAbs-le z (fits .sfits)
+
+  size : SFits w32 (pos (natAbs z))
+  size = record { sfits = omega (arith, small) }
+
+cast-wide : tie.Need-cast-wide
+cast-wide c = rw (toZ-ofZ {w = w16} (c .fits .sample)) (wide (c .args .sample) (c .fits .sample))
+
+module _ (c : tie.Then1) where
+  difference : pos 0 -ℤ toZ w32 (ofZ w32 (toZ w16 (ofZ w16 (c .before .args .sample)))) ≡ pos (natAbs (c .before .args .sample))
+  difference =
+      let e = held (c .before .args .sample) (c .before .fits .sample) in
+      rw e (negated (c .before .args .sample) (rw e at (c .if1 .taken)))
+
+sub-result : tie.Need-sub-result
+sub-result c = rw (difference c) (size (c .before .args .sample) (c .before .fits .sample))
+
+cast-result : tie.Need-cast-result
+cast-result c =
+    rw (difference c, toZ-ofZ {w = w32} (size (c .before .args .sample) (c .before .fits .sample)))
+    (tt, omega (arith, small (c .before .args .sample) (c .before .fits .sample)))
+
+cast-result-2 : tie.Need-cast-result-2
+cast-result-2 c =
+    let z = c .before .args .sample in
+    let e = held z (c .before .fits .sample) in
+    rw e (kept z (rw e at (c .if1 .left)), omega (arith, small z (c .before .fits .sample)))
+
+returns : tie.Need-returns
+returns c = rw (difference c, toZ-ofZ {w = w32} (size (c .before .args .sample) (c .before .fits .sample)))
+
+returns-2 : tie.Need-returns-2
+returns-2 c = rw (held (c .before .args .sample) (c .before .fits .sample))
+
+pub magnitude-spec : {M : Type 1} → statement M
+magnitude-spec = tie.close (tie.spec cast-wide sub-result cast-result cast-result-2 returns returns-2)

@@ -1,0 +1,4 @@
+pub mod Text
+pub mod Parse
+pub mod Inverse
+pub mod Calls

@@ -1,0 +1,95 @@
+-- A text read as a sheet, byte by byte: document 01, "Sheet and programs". `Inverse` says that this undoes `sheetOf`.
+-- Assumes nothing.
+use mathlib.Core.Bool.{Bool, true, false, cond, _&&_}
+use mathlib.Core.List.{List, [], _∷_}
+use Prim.Native.Nat.{ℕ, _+_, _-_, _*_, _<_}
+use lib.Dec.{ltb, eqb}
+use lib.IntN.{ℤ, pos, negℤ}
+use lib.ListN.{length, getD, drop}
+use Rattle.calls.specs.Runs.{after, gives}
+use Rattle.text.specs.Numbers.{isDigit}
+use Rattle.text.specs.Bytes.{startsWith}
+use Rattle.sheet.specs.Text.{bandLine, sampleLine}
+use Rattle.tones.specs.Samples.{areSamples}
+use Rattle.sheet.specs.declared.Line.{Line}
+use Rattle.sheet.specs.declared.Line.the-variants.{Start, Minus, Zero, Number, Bad}
+use Rattle.sheet.specs.declared.Seen.{Seen}
+
+-- ---- the lines of samples: `0`, or an optional minus and 1 to 4 digits not beginning with 0
+
+-- where the reading stands after one more byte; a fifth digit would stand behind a number of at least 1,000
+unfoldable pub next : Line → ℕ → Line
+next Start byte = cond (eqb byte 45) Minus (cond (eqb byte 48) Zero (cond (isDigit byte) (Number false (byte - 48)) Bad))
+next Minus byte = cond (eqb byte 48) Bad (cond (isDigit byte) (Number true (byte - 48)) Bad)
+next Zero byte = cond (eqb byte 10) Start Bad
+next (Number negative size) byte =
+    cond (eqb byte 10) Start (cond (isDigit byte && ltb size 1000) (Number negative (size * 10 + (byte - 48))) Bad)
+next Bad byte = Bad
+
+-- the sample of a line that ends here
+unfoldable pub sampleOf : Line → ℤ
+sampleOf Start = pos 0
+sampleOf Minus = pos 0
+sampleOf Zero = pos 0
+sampleOf (Number negative size) = cond negative (negℤ (pos size)) (pos size)
+sampleOf Bad = pos 0
+
+-- each line feed ends a line
+abbrev pub sampleAt : Line → ℕ → List ℤ
+sampleAt line byte = cond (eqb byte 10) (sampleOf line ∷ []) []
+
+-- where the reading stands behind a text
+abbrev pub lineAfter : Line → List ℕ → Line
+lineAfter = after next
+
+-- the samples of the lines that end in it
+abbrev pub samplesIn : Line → List ℕ → List ℤ
+samplesIn = gives next sampleAt
+
+-- every line is ended, and none was bad
+unfoldable pub isStart : Line → Bool
+isStart Start = true
+isStart Minus = false
+isStart Zero = false
+isStart (Number negative size) = false
+isStart Bad = false
+
+-- ---- a whole text
+
+-- the three lines above the samples, with any digit
+unfoldable pub isHeaded : List ℕ → Bool
+isHeaded text = startsWith bandLine text && startsWith (10 ∷ sampleLine) (drop 6 text) && isDigit (getD text 5 0)
+
+-- the text has the form of a sheet
+unfoldable pub isSheet : List ℕ → Bool
+isSheet text = isHeaded text && isStart (lineAfter Start (drop 14 text))
+
+-- its band's digit and its samples
+abbrev pub bandIn : List ℕ → ℕ
+bandIn text = getD text 5 0 - 48
+
+abbrev pub samplesOf : List ℕ → List ℤ
+samplesOf text = samplesIn Start (drop 14 text)
+
+-- ---- what the code asks and keeps
+
+-- a number of at most four digits
+abbrev pub Small : Line → Type 0
+Small Start = Unit
+Small Minus = Unit
+Small Zero = Unit
+Small (Number negative size) = size < 10000
+Small Bad = Unit
+
+-- a first look at the lines: where it stands, how many samples there are, and whether all are in range
+abbrev pub seenNext : Seen → ℕ → Seen
+seenNext seen byte =
+    record {
+      line = next (seen .line) byte;
+      count = seen .count + length (sampleAt (seen .line) byte);
+      sound = seen .sound && areSamples (sampleAt (seen .line) byte);
+    }
+
+abbrev pub seenOf : List ℕ → Seen
+seenOf lines =
+    record { line = lineAfter Start lines; count = length (samplesIn Start lines); sound = areSamples (samplesIn Start lines) }

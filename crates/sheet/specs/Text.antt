@@ -1,0 +1,31 @@
+-- The text of a sheet, in ASCII codes: document 01, "Sheet and programs".
+-- Assumes nothing.
+use mathlib.Core.List.{List, [], _∷_, _++_}
+use Prim.Native.Nat.{ℕ, suc, _+_}
+use lib.IntN.{ℤ, pos, negsuc}
+use Rattle.calls.specs.Lists.{each}
+use Rattle.text.specs.Numbers.{decimal}
+
+-- the line of one sample; 45 is the minus, 10 the line feed
+unfoldable pub lineOf : ℤ → List ℕ
+lineOf (pos n) = decimal n ++ (10 ∷ [])
+lineOf (negsuc n) = 45 ∷ decimal (suc n) ++ (10 ∷ [])
+
+-- a line for each sample
+abbrev pub linesOf : List ℤ → List ℕ
+linesOf = each lineOf
+
+-- the line `band`
+abbrev pub bandLine : List ℕ
+bandLine = 98 ∷ 97 ∷ 110 ∷ 100 ∷ 10 ∷ []
+
+-- the line `sample`
+abbrev pub sampleLine : List ℕ
+sampleLine = 115 ∷ 97 ∷ 109 ∷ 112 ∷ 108 ∷ 101 ∷ 10 ∷ []
+
+-- the three lines above the samples, for a band of one digit
+unfoldable pub headOf : ℕ → List ℕ
+headOf band = bandLine ++ ((48 + band) ∷ 10 ∷ sampleLine)
+
+unfoldable pub sheetOf : ℕ → List ℤ → List ℕ
+sheetOf band samples = headOf band ++ linesOf samples
