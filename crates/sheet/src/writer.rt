@@ -64,7 +64,7 @@ fn put_line(out: &mut [u8], at: usize, sample: i16) -> usize
     ensures place { λ r. ⌜ r ≡ at + length (lineOf sample) ⌝ }
     ensures lent { λ r. ⌜ now (out .exit) ≡ sets (now (out .entry)) at (lineOf sample) ⌝ }
 {
-    let n = magnitude(sample);
+    let n = text::magnitude(sample);
     if sample < 0 {
         text::put(out, at, b"-");
         return put_number(out, at + 1, n);
@@ -103,22 +103,10 @@ fn lines_len(samples: &[i16]) -> usize
 fn line_len(sample: i16) -> usize
     ensures { λ r. ⌜ r ≡ length (lineOf sample) ⌝ }
 {
-    let digits = text::decimal(magnitude(sample));
+    let digits = text::decimal(text::magnitude(sample));
     if sample < 0 {
         digits.len + 2
     } else {
         digits.len + 1
-    }
-}
-
-// How far a sample lies from 0: of -32768 too, which has no negative in 16 bits.
-fn magnitude(sample: i16) -> u16
-    ensures { λ r. ⌜ r ≡ natAbs sample ⌝ }
-{
-    let wide = sample as i32;
-    if wide < 0 {
-        (0 - wide) as u16
-    } else {
-        wide as u16
     }
 }

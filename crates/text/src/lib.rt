@@ -1,5 +1,6 @@
 // Bytes of text: numbers in decimal and in hexadecimal, bytes put into a buffer, and the front of a text.
 ghost use mathlib.Core.Path.{_≡_};
+ghost use lib.IntN.{natAbs};
 ghost use lib.Seq.{sets};
 ghost use Rattle.text.specs.Numbers.{isDigit, digitsOf, hexDigit, hexadecimal};
 ghost use Rattle.text.specs.Bytes.{startsWith};
@@ -15,6 +16,18 @@ pub fn is_digit(byte: u8) -> bool
     ensures { λ r. ⌜ r ≡ isDigit byte ⌝ }
 {
     48 <= byte && byte <= 57
+}
+
+// How far a number lies from 0: of -32768 too, which has no negative in 16 bits.
+pub fn magnitude(z: i16) -> u16
+    ensures { λ r. ⌜ r ≡ natAbs z ⌝ }
+{
+    let wide = z as i32;
+    if wide < 0 {
+        (0 - wide) as u16
+    } else {
+        wide as u16
+    }
 }
 
 // The decimal digits of a number: those of its tenth, and one more.

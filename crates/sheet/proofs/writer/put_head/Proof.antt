@@ -14,8 +14,11 @@ module _ (c : tie.After-put2) where
   abbrev start : tie.Start
   start = c .before .before .before .before .before .before .before .before .before
 
-  two : c .put2 .last .0 ≡ sets (start .args .out .now) 0 (bandLine ++ ((48 + start .args .band) ∷ 10 ∷ []))
-  two = c .put2 .ensures ∙ ap (λ (l : List ℕ). sets l 5 ((48 + start .args .band) ∷ 10 ∷ [])) (c .before .before .before .before .before .put .ensures)
+  abbrev digit : List ℕ
+  digit = (48 + start .args .band) ∷ 10 ∷ []
+
+  two : c .put2 .last .0 ≡ sets (start .args .out .now) 0 (bandLine ++ digit)
+  two = c .put2 .ensures ∙ ap (λ (l : List ℕ). sets l 5 digit) (c .before .before .before .before .before .put .ensures)
 
 slice-aggregate-put : tie.Need-slice-aggregate-put
 slice-aggregate-put c = search needs

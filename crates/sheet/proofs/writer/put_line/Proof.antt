@@ -46,7 +46,7 @@ add-put-number : tie.Need-add-put-number
 add-put-number c = omega (arith, room (c .before .before .before .before .before .before))
 
 put-number-requires : tie.Need-put-number-requires
-put-number-requires c κs = room (c .before .before .before .before .before .before)
+put-number-requires c κs = omega (arith, room (c .before .before .before .before .before .before))
 
 same-length : tie.Need-same-length
 same-length c = search needs

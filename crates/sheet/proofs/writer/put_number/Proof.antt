@@ -1,6 +1,6 @@
 -- `sheet::writer::put_number` meets its contract.
 -- Assumes nothing.
-use mathlib.Core.Path.{_≡_, sym, ap, _∙_}
+use mathlib.Core.Path.{_≡_, sym, ap, ap₂, _∙_}
 use mathlib.Core.List.{List, [], _∷_, _++_}
 use Prim.Native.Nat.{ℕ, _+_, _-_, _≤_}
 use native.Mathlib.Omega.{arith}
@@ -32,6 +32,29 @@ module _ (c : tie.After-decimal) where
 
   room : c .before .before .args .at + c .decimal .result .len + 1 ≤ 65536
   room = omega (arith, long, c .before .before .pre)
+
+-- both puts
+module _ (c : tie.After-put2) where
+  abbrev shown : tie.After-decimal
+  shown = c .before .before .before .before .before .before .before .before .before
+
+  abbrev out : List ℕ
+  out = shown .before .before .args .out .now
+
+  abbrev at : ℕ
+  at = shown .before .before .args .at
+
+  first : c .before .before .before .before .before .put .last .0 ≡ sets out at (digits shown)
+  first = c .before .before .before .before .before .put .ensures ∙ ap (sets out at) (front shown)
+
+  second : c .put2 .last .0 ≡ sets (c .before .before .before .before .before .put .last .0) (at + shown .decimal .result .len) (10 ∷ [])
+  second = c .put2 .ensures
+
+  both : c .put2 .last .0 ≡ sets out at (digits shown ++ (10 ∷ []))
+  both =
+      second
+      ∙ ap₂ (λ (l : List ℕ) (n : ℕ). sets l (at + n) (10 ∷ [])) first (len shown)
+      ∙ sym (sets-append out at (digits shown) (10 ∷ []))
 
 decimal-requires : tie.Need-decimal-requires
 decimal-requires c κs = tt
@@ -66,13 +89,7 @@ same-length : tie.Need-same-length
 same-length c = search needs
 
 returns : tie.Need-returns
-returns c =
-    let d = c .before .before .before .before .before .before .before .before .before .before .before in
-    let a = d .before .before .args in
-    let e =
-    c .before .before .put2 .ensures
-    ∙ ap (λ (l : List ℕ). sets l (a .at + d .decimal .result .len) (10 ∷ [])) (c .before .before .before .before .before .before .before .put .ensures) in
-    (omega (arith, long d), rw (front d, len d) at e ∙ sym (sets-append (a .out .now) (a .at) (digits d) (10 ∷ [])))
+returns c = (omega (arith, long (c .before .before .before .before .before .before .before .before .before .before .before)), both (c .before .before))
 
 pub put-number-spec : {M : Type 1} → statement M
 put-number-spec =

@@ -1,4 +1,4 @@
--- `sheet::writer::magnitude` meets its contract.
+-- `text::magnitude` meets its contract.
 -- Assumes nothing.
 use mathlib.Core.Path.{_≡_}
 use mathlib.Core.Bool.{true, false, true≢false}
@@ -12,8 +12,8 @@ use lib.Signed.{ltZ, nonNeg, natAbs-le}
 use mir.Syntax.{w16, w32}
 use mir.Val.{SFits, toZ, ofZ}
 use mir.Facts.{toZ-ofZ}
-use Rattle.sheet.proofs.writer.magnitude.Statement.{statement}
-use Rattle.sheet.proofs.writer.magnitude.Tie as tie
+use Rattle.text.proofs.magnitude.Statement.{statement}
+use Rattle.text.proofs.magnitude.Tie as tie
 
 -- below 0 the difference from 0 is the size, elsewhere the number itself is
 negated : (z : ℤ) → ltZ z (pos 0) ≡ true → pos 0 -ℤ z ≡ pos (natAbs z)
@@ -39,33 +39,33 @@ module _ (z : ℤ) (fits : SFits w16 z) where
   size = record { sfits = omega (arith, small) }
 
 cast-wide : tie.Need-cast-wide
-cast-wide c = rw (toZ-ofZ {w = w16} (c .fits .sample)) (wide (c .args .sample) (c .fits .sample))
+cast-wide c = rw (toZ-ofZ {w = w16} (c .fits .z)) (wide (c .args .z) (c .fits .z))
 
 module _ (c : tie.Then1) where
-  difference : pos 0 -ℤ toZ w32 (ofZ w32 (toZ w16 (ofZ w16 (c .before .args .sample)))) ≡ pos (natAbs (c .before .args .sample))
+  difference : pos 0 -ℤ toZ w32 (ofZ w32 (toZ w16 (ofZ w16 (c .before .args .z)))) ≡ pos (natAbs (c .before .args .z))
   difference =
-      let e = held (c .before .args .sample) (c .before .fits .sample) in
-      rw e (negated (c .before .args .sample) (rw e at (c .if1 .taken)))
+      let e = held (c .before .args .z) (c .before .fits .z) in
+      rw e (negated (c .before .args .z) (rw e at (c .if1 .taken)))
 
 sub-result : tie.Need-sub-result
-sub-result c = rw (difference c) (size (c .before .args .sample) (c .before .fits .sample))
+sub-result c = rw (difference c) (size (c .before .args .z) (c .before .fits .z))
 
 cast-result : tie.Need-cast-result
 cast-result c =
-    rw (difference c, toZ-ofZ {w = w32} (size (c .before .args .sample) (c .before .fits .sample)))
-    (tt, omega (arith, small (c .before .args .sample) (c .before .fits .sample)))
+    rw (difference c, toZ-ofZ {w = w32} (size (c .before .args .z) (c .before .fits .z)))
+    (tt, omega (arith, small (c .before .args .z) (c .before .fits .z)))
 
 cast-result-2 : tie.Need-cast-result-2
 cast-result-2 c =
-    let z = c .before .args .sample in
-    let e = held z (c .before .fits .sample) in
-    rw e (kept z (rw e at (c .if1 .left)), omega (arith, small z (c .before .fits .sample)))
+    let z = c .before .args .z in
+    let e = held z (c .before .fits .z) in
+    rw e (kept z (rw e at (c .if1 .left)), omega (arith, small z (c .before .fits .z)))
 
 returns : tie.Need-returns
-returns c = rw (difference c, toZ-ofZ {w = w32} (size (c .before .args .sample) (c .before .fits .sample)))
+returns c = rw (difference c, toZ-ofZ {w = w32} (size (c .before .args .z) (c .before .fits .z)))
 
 returns-2 : tie.Need-returns-2
-returns-2 c = rw (held (c .before .args .sample) (c .before .fits .sample))
+returns-2 c = rw (held (c .before .args .z) (c .before .fits .z))
 
 pub magnitude-spec : {M : Type 1} → statement M
 magnitude-spec = tie.close (tie.spec cast-wide sub-result cast-result cast-result-2 returns returns-2)

@@ -1,0 +1,56 @@
+-- `sheets::reading::read_lines` is safe: the part that is read lies within the text.
+-- Assumes nothing.
+use lib.Seq.{length-take-le}
+use mathlib.Core.Path.{sym}
+use borrow.Author.Needs.{needs}
+use Rattle.sheets.proofs.reading.read_lines.Statement.{statement}
+use Rattle.sheets.proofs.reading.read_lines.Tie as tie
+
+slice-aggregate-put : tie.Need-slice-aggregate-put
+slice-aggregate-put c = search needs
+
+slice-aggregate-put-2 : tie.Need-slice-aggregate-put-2
+slice-aggregate-put-2 c = search needs
+
+put-requires : tie.Need-put-requires
+put-requires c κs = tt
+
+slice-aggregate-put-3 : tie.Need-slice-aggregate-put-3
+slice-aggregate-put-3 c = search needs
+
+put-requires-2 : tie.Need-put-requires-2
+put-requires-2 c κs = tt
+
+add-n : tie.Need-add-n
+add-n c = search needs
+
+array-share-prefix-text : tie.Need-array-share-prefix-text
+array-share-prefix-text c = search needs
+
+slice-aggregate-read : tie.Need-slice-aggregate-read
+slice-aggregate-read c = sym (length-take-le _ (c .before .before .before .put2 .last .0) (search needs))
+
+read-requires : tie.Need-read-requires
+read-requires c κs = tt
+
+returns : tie.Need-returns
+returns c = tt
+
+returns-2 : tie.Need-returns-2
+returns-2 c = tt
+
+pub read-lines-spec : {M : Type 1} → statement M
+read-lines-spec =
+    tie.close
+    (tie.spec
+    slice-aggregate-put
+    slice-aggregate-put-2
+    put-requires
+    slice-aggregate-put-3
+    put-requires-2
+    add-n
+    array-share-prefix-text
+    slice-aggregate-read
+    read-requires
+    returns
+    returns-2)

@@ -1,0 +1,106 @@
+// Texts that are read into four places.
+ghost use mathlib.Core.Path.{_≡_};
+ghost use lib.ListN.{length};
+use crate::showing::show_answer;
+use crate::showing::show_places;
+use libc::STDOUT_FILENO;
+
+// Lines of samples behind the head of band 1.
+pub(crate) fn lines() {
+    read_lines(b"");
+    read_lines(b"0\n1\n-1\n8191\n");
+    read_lines(b"-8191\n9\n10\n999\n");
+    read_lines(b"8192\n");
+    read_lines(b"-8192\n");
+    read_lines(b"9999\n");
+    read_lines(b"1\n2\n3\n4\n5\n");
+    read_lines(b"9999\n1\n2\n3\n4\n");
+}
+
+// Lines that no sheet has.
+pub(crate) fn malformed() {
+    read_lines(b"-0\n");
+    read_lines(b"00\n");
+    read_lines(b"05\n");
+    read_lines(b"+1\n");
+    read_lines(b"-\n");
+    read_lines(b"10000\n");
+    read_lines(b"1 \n");
+    read_lines(b"1\n\n2\n");
+    read_lines(b"1\r\n");
+    read_lines(b"\0\n");
+    read_lines(b"1\n2");
+    read_lines(b"9999\nx\n");
+}
+
+// Whole texts.
+pub(crate) fn texts() {
+    read(b"");
+    read(b"band\n1\nsample");
+    read(b"band\n2\nsample\n-7\n");
+    read(b"band\n12\nsample\n");
+    read(b"Band\n1\nsample\n");
+    read(b"band\n\nsample\n1\n");
+    read(b"band\n3\nsample\n9999\n");
+    read(b"band\n0\nsample\nx\n");
+}
+
+// The longest text, and the most samples.
+pub(crate) fn lengths() {
+    let text = zeros();
+    let mut all = [7777i16; 16384];
+    read_front(b"65537 bytes", &text, 65537, &mut all);
+    read_front(b"65536 bytes, 32761 samples", &text, 65536, &mut all);
+    read_front(b"16385 samples", &text, 32784, &mut all);
+    read_front(b"16384 samples", &text, 32782, &mut all);
+    let mut few = [7777i16; 16383];
+    read_front(b"16384 samples into 16383 places", &text, 32782, &mut few);
+}
+
+// Reads the first n bytes of a text, and prints the answer alone.
+fn read_front(name: &[u8], text: &[u8], n: usize, places: &mut [i16]) {
+    if n <= text.len() {
+        let r = sheet::read(&text[..n], places);
+        io::write_all(STDOUT_FILENO, name);
+        show_answer(r.answer);
+        io::write_all(STDOUT_FILENO, b"\n");
+    }
+}
+
+// A sheet of lines `0`.
+fn zeros() -> [u8; 65537]
+    ensures { λ r. ⌜ 65537 ≡ length r ⌝ }
+{
+    let mut text = [10u8; 65537];
+    text::put(&mut text, 0, b"band\n1\nsample\n");
+    let mut i: usize = 14;
+    while i < 65537 {
+        text[i] = 48;
+        i += 2;
+    }
+    text
+}
+
+fn read_lines(lines: &[u8]) {
+    let mut text = [0u8; 64];
+    text::put(&mut text, 0, b"band\n1\nsample\n");
+    text::put(&mut text, 14, lines);
+    if lines.len() <= 50 {
+        let n = 14 + lines.len();
+        read(&text[..n]);
+    }
+}
+
+// A text as it is, and what comes of reading it.
+fn read(text: &[u8]) {
+    let mut places = [7777i16; 4];
+    let r = sheet::read(text, &mut places);
+    io::write_all(STDOUT_FILENO, b"read\n");
+    io::write_all(STDOUT_FILENO, text);
+    io::write_all(STDOUT_FILENO, b"gives");
+    show_answer(r.answer);
+    io::write_all(STDOUT_FILENO, b", band ");
+    io::print_decimal(STDOUT_FILENO, r.band as u64);
+    show_places(&places);
+    io::write_all(STDOUT_FILENO, b"\n");
+}
