@@ -1,5 +1,6 @@
-//! A second modem to compare the first with: the sine, the transmitter and the
-//! receiver, written from document 01 and from none of the product's code.
+//! A second modem to compare the first with: the sine, the transmitter, the
+//! receiver and the sheet, written from document 01 and from none of the
+//! product's code.
 //! Decision 16 of `docs/DECISIONS.md` says what else was known.
 //! The tests in `tests/` compare it with the static library.
 //! `in_place` and `shifted_window` are the receiver again, written for speed;
@@ -15,6 +16,7 @@ mod natural;
 pub mod picture;
 pub mod random;
 pub mod receiver;
+pub mod sheet;
 pub mod shifted_window;
 pub mod sine;
 pub mod transmitter;

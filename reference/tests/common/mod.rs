@@ -1,15 +1,18 @@
 //! What the test files share: one call made on either side, and compared. This
 //! file has the transmitter, `receiver` the receiver, `recording` what it reads,
 //! `states` what it goes on from and `refused` what it refuses in between.
-//! `disturbed` has what the program of that name prints.
+//! `sheets` and `forms` have sheets and almost sheets, and `disturbed` what the
+//! program of that name prints.
 
 // Each test file uses a part of this.
 #![allow(dead_code)]
 
 pub mod disturbed;
+pub mod forms;
 pub mod receiver;
 pub mod recording;
 pub mod refused;
+pub mod sheets;
 pub mod states;
 
 use reference::library;
