@@ -1,8 +1,8 @@
 //! A second modem to compare the first with: the sine, the transmitter, the
-//! receiver and the sheet, written from document 01 and from none of the
-//! product's code.
+//! receiver, the sheet and the two programs, written from document 01 and from
+//! none of the product's code.
 //! Decision 16 of `docs/DECISIONS.md` says what else was known.
-//! The tests in `tests/` compare it with the static library.
+//! The tests in `tests/` compare it with the static library and the programs.
 //! `in_place` and `shifted_window` are the receiver again, written for speed;
 //! the benchmark measures the library beside them.
 //! `picture` draws `docs/windows.svg` from the same sine, transmitter and sums.
@@ -14,6 +14,7 @@ pub mod in_place;
 pub mod library;
 mod natural;
 pub mod picture;
+pub mod programs;
 pub mod random;
 pub mod receiver;
 pub mod sheet;

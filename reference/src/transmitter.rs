@@ -5,8 +5,8 @@ use crate::sine::Sines;
 pub(crate) const CYCLE: u16 = 1_920;
 const SAMPLES_PER_BIT: usize = 32;
 pub(crate) const IDLE_SAMPLES: usize = 96;
-const CHARACTER_SAMPLES: usize = 320;
-const MOST_CHARACTERS: usize = 100;
+pub(crate) const CHARACTER_SAMPLES: usize = 320;
+pub(crate) const MOST_CHARACTERS: usize = 100;
 
 /// Steps of bit 0 (space) and bit 1 (mark) for bands 1 and 2.
 pub const STEPS: [[u16; 2]; 2] = [[214, 254], [405, 445]];
