@@ -1,8 +1,9 @@
 //! What the test files share: one call made on either side, and compared. This
 //! file has the transmitter, `receiver` the receiver, `recording` what it reads,
 //! `states` what it goes on from and `refused` what it refuses in between.
-//! `sheets` and `forms` have sheets and almost sheets, `lengths` how long they
-//! are, and `disturbed` what the program of that name prints.
+//! `process` runs the programs. `sheets` and `forms` have sheets and almost
+//! sheets, `lengths` how long they are, and `disturbed` what the program of that
+//! name prints.
 
 // Each test file uses a part of this.
 #![allow(dead_code)]
@@ -10,6 +11,7 @@
 pub mod disturbed;
 pub mod forms;
 pub mod lengths;
+pub mod process;
 pub mod receiver;
 pub mod recording;
 pub mod refused;
