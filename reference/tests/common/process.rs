@@ -85,10 +85,17 @@ pub fn ended(mut program: Child) -> ExitStatus {
     }
 }
 
-/// The input with which a program is run where it is proved, and the output
-/// that it is held to there.
-pub fn files(program: &str) -> [Vec<u8>; 2] {
+fn file(program: &str, name: &str) -> Vec<u8> {
     let folder = concat!(env!("CARGO_MANIFEST_DIR"), "/../crates/");
-    let file = |name| format!("{folder}{program}/{name}");
-    ["stdin", "stdout"].map(|name| fs::read(file(name)).expect("the file is there"))
+    fs::read(format!("{folder}{program}/{name}")).expect("the file is there")
+}
+
+/// The output that a program is held to where it is proved.
+pub fn output_file(program: &str) -> Vec<u8> {
+    file(program, "stdout")
+}
+
+/// The input with which a program is run there, and that output.
+pub fn files(program: &str) -> [Vec<u8>; 2] {
+    [file(program, "stdin"), output_file(program)]
 }
