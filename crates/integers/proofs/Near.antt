@@ -27,7 +27,7 @@ altered-at (x ∷ xs) [] k h l = absurd (not-suc-le-zero l)
 altered-at (x ∷ xs) (d ∷ ds) zero h l = refl
 altered-at (x ∷ xs) (d ∷ ds) (suc k) h l = altered-at xs ds k (le-of-suc-le-suc h) (le-of-suc-le-suc l)
 
-altered-none : (xs : List ℤ) → altered xs [] ≡ xs
+pub altered-none : (xs : List ℤ) → altered xs [] ≡ xs
 unfolding altered
 altered-none [] = refl
 altered-none (x ∷ xs) = refl

@@ -1,8 +1,9 @@
 // Bytes of text: numbers in decimal and in hexadecimal, bytes put into a buffer, and the front of a text.
 ghost use mathlib.Core.Path.{_≡_};
 ghost use lib.IntN.{natAbs};
+ghost use lib.ListN.{length};
 ghost use lib.Seq.{sets};
-ghost use Rattle.text.specs.Numbers.{isDigit, digitsOf, hexDigit, hexadecimal};
+ghost use Rattle.text.specs.Numbers.{isDigit, decimal, digitsOf, hexDigit, hexadecimal};
 ghost use Rattle.text.specs.Bytes.{startsWith};
 ghost use Prim.Native.Nat.{_<_};
 
@@ -77,6 +78,18 @@ pub fn put(out: &mut [u8], at: usize, bytes: &[u8])
         }
         i += 1;
     }
+}
+
+// Puts the decimal digits of a number to a buffer from the place `at` on, and gives their count.
+pub fn put_decimal(out: &mut [u8], at: usize, n: u16) -> usize
+    ensures count { λ r. ⌜ r ≡ length (decimal n) ⌝ }
+    ensures lent { λ r. ⌜ now (out .exit) ≡ sets (now (out .entry)) at (decimal n) ⌝ }
+{
+    let digits = decimal(n);
+    let bytes = digits.bytes;
+    let len = digits.len;
+    put(out, at, &bytes[..len]);
+    len
 }
 
 // A text begins with these bytes.

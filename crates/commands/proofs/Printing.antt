@@ -1,0 +1,161 @@
+-- The lines that are printed: each case of a line in the parts in which it is put, lengths, and a list of lines that is put one by one.
+-- Assumes nothing.
+use mathlib.Core.Path.{_≡_, refl, sym, ap, _∙_}
+use mathlib.Core.List.{List, [], _∷_, _++_}
+use Prim.Native.Nat.{ℕ, suc, _+_, _*_, _<_, _≤_, zero-le}
+use native.Mathlib.Numerals.{add-one}
+use native.Mathlib.Omega.{arith}
+use borrow.Author.Tests.{lt-ltb}
+use lib.Dec.{ltb, eqb}
+use lib.ListN.{length, getD, drop, length-append, drop-of-length-le}
+use lib.Seq.{sets, drop-cons}
+use Rattle.integers.proofs.Tests.{cond-case}
+use Rattle.integers.proofs.Lists.{sets-append, sets-front}
+use Rattle.calls.proofs.Filling.{Filling, filling-start, filling-more, filling-end}
+use Rattle.text.specs.Numbers.{decimal, hexadecimal}
+use Rattle.text.proofs.Numbers.{decimal-small, length-decimal, length-hexadecimal}
+use Rattle.commands.specs.Lines.{refusedLine, refusalLines, kindOf, valueOf, fieldsOf, eventLine, eventLines, namesLine, eventsText}
+use Rattle.commands.specs.Programs.{over}
+
+-- ---- lengths
+
+length-kind : (event : ℕ) → length (kindOf event) ≤ 6
+length-kind event =
+    cond-case (λ (l : List ℕ). length l ≤ 6) (ltb event 256) _ _ (omega arith)
+    (cond-case (λ (l : List ℕ). length l ≤ 6) (eqb event 256) _ _ (omega arith) (omega arith))
+
+length-value : (event : ℕ) → length (valueOf event) ≡ 2
+length-value event = cond-case (λ (l : List ℕ). length l ≡ 2) (ltb event 256) _ _ (length-hexadecimal event) refl
+
+-- the longest kind and two more places, two spaces and the line feed
+length-fields : (event : ℕ) → length (fieldsOf event) ≤ 11
+length-fields event =
+    omega (
+      arith,
+      length-append ((32 ∷ kindOf event) ++ (32 ∷ valueOf event)) (10 ∷ []),
+      length-append (32 ∷ kindOf event) (32 ∷ valueOf event),
+      length-kind event,
+      length-value event,
+    )
+
+length-line : (place event : ℕ) → place < 1000 → length (eventLine place event) ≤ 14
+unfolding eventLine
+length-line place event h = omega (arith, length-append (decimal place) (fieldsOf event), length-decimal 2 place h, length-fields event)
+
+length-lines : (place : ℕ) (events : List ℕ) → place + length events ≤ 1000 → length (eventLines place events) ≤ 14 * length events
+unfolding eventLines
+length-lines place [] h = zero-le
+length-lines place (event ∷ events) h =
+    omega (
+      arith,
+      length-append (eventLine place event) (eventLines (suc place) events),
+      length-line place event (omega arith),
+      length-lines (suc place) events (omega arith),
+    )
+
+-- ---- parts that are put one behind the other
+
+-- a refusal's number below 10 is one digit
+module _ (number : ℕ) (h : number < 10) where
+  digit-lines : refusalLines number ≡ refusedLine ++ ((48 + number) ∷ 10 ∷ [])
+  unfolding refusalLines
+  digit-lines = rw (decimal-small number h)
+
+  pub refusal-length : 10 ≡ length (refusalLines number)
+  refusal-length = rw digit-lines
+
+  pub refusal-parts : (lent : List ℕ) → 10 ≤ length lent
+      → sets (sets lent 0 refusedLine) 8 ((48 + number) ∷ 10 ∷ []) ≡ over (refusalLines number) lent
+  refusal-parts lent room =
+      let all = refusedLine ++ ((48 + number) ∷ 10 ∷ []) in
+      sets-front all lent room ∙ ap (λ (l : List ℕ). over l lent) (sym digit-lines)
+
+-- the fields of a character, its value in the middle
+module _ (event : ℕ) (h : event < 256) where
+  abbrev kind : List ℕ
+  kind = 32 ∷ 99 ∷ 104 ∷ 97 ∷ 114 ∷ 32 ∷ []
+
+  char-fields : fieldsOf event ≡ kind ++ (hexadecimal event ++ (10 ∷ []))
+  char-fields = rw (lt-ltb event 256 h)
+
+  pub char-length : 9 ≡ length (fieldsOf event)
+  unfolding hexadecimal
+  char-length = sym (ap length char-fields)
+
+  pub char-parts : (lent : List ℕ) (at : ℕ) → sets (sets (sets lent at kind) (at + 6) (hexadecimal event)) (at + 8) (10 ∷ []) ≡ sets lent at (fieldsOf event)
+  char-parts lent at =
+      let e : at + 6 + length (hexadecimal event) ≡ at + 8 = omega (arith, length-hexadecimal event) in
+      sym
+      (ap (sets lent at) char-fields
+      ∙ sets-append lent at kind (hexadecimal event ++ (10 ∷ []))
+      ∙ sets-append (sets lent at kind) (at + 6) (hexadecimal event) (10 ∷ [])
+      ∙ ap (λ (n : ℕ). sets (sets (sets lent at kind) (at + 6) (hexadecimal event)) n (10 ∷ [])) e)
+
+-- a place and its fields
+module _ (place event : ℕ) where
+  pub line-length : length (eventLine place event) ≡ length (decimal place) + length (fieldsOf event)
+  unfolding eventLine
+  line-length = length-append (decimal place) (fieldsOf event)
+
+  pub line-parts : (lent : List ℕ) (at : ℕ)
+      → sets (sets lent at (decimal place)) (at + length (decimal place)) (fieldsOf event) ≡ sets lent at (eventLine place event)
+  unfolding eventLine
+  line-parts lent at = sym (sets-append lent at (decimal place) (fieldsOf event))
+
+-- ---- lines of events that are put one by one
+
+-- the names line is 18 bytes, and the other lines stand behind it
+module _ (events : List ℕ) where
+  pub text-length : length (eventsText events) ≡ 18 + length (eventLines 0 events)
+  unfolding eventsText
+  text-length = length-append namesLine (eventLines 0 events)
+
+  pub text-most : length events ≤ 342 → length (eventsText events) ≤ 4806
+  text-most few = omega (arith, text-length, length-lines 0 events (omega arith))
+
+  pub text-parts : (lent : List ℕ) → length (eventsText events) ≤ length lent
+      → sets (sets lent 0 namesLine) 18 (eventLines 0 events) ≡ over (eventsText events) lent
+  unfolding eventsText
+  text-parts lent room = sym (sets-append lent 0 namesLine (eventLines 0 events)) ∙ sets-front (eventsText events) lent room
+
+-- `lent` is to get the lines of all events behind the names line; it is `now`, and those from `place` on are still to come from `at` on
+pub record Printed (lent events now : List ℕ) (at place : ℕ) : Type 0 where
+  pub counted : at + length (eventLines place (drop place events)) ≡ 18 + length (eventLines 0 events)
+  pub filled : Filling lent 18 (eventLines 0 events) now at (eventLines place (drop place events))
+
+module _ (lent events : List ℕ) where
+  pub printed-start : Printed lent events lent 18 0
+  printed-start = record { counted = refl; filled = filling-start lent 18 (eventLines 0 events) }
+
+  module _ (now : List ℕ) (at place : ℕ) (p : Printed lent events now at place) where
+    -- one line more
+    module _ (h : place < length events) where
+      abbrev line : List ℕ
+      line = eventLine place (getD events place 0)
+
+      abbrev rest : List ℕ
+      rest = eventLines (place + 1) (drop (place + 1) events)
+
+      lines-next : eventLines place (drop place events) ≡ line ++ rest
+      unfolding eventLines
+      lines-next = rw (add-one place) (ap (eventLines place) (drop-cons events place 0 h))
+
+      shares : at + length line + length rest ≡ 18 + length (eventLines 0 events)
+      shares = omega (arith, ap length lines-next, length-append line rest, p .counted)
+
+      pub printed-room : length events ≤ 342 → at + length line ≤ 4806
+      printed-room few = omega (arith, shares, text-length events, text-most events few)
+
+      pub printed-more : Printed lent events (sets now at line) (at + length line) (place + 1)
+      printed-more = record { counted = shares; filled = filling-more line rest (rw lines-next at (p .filled)) }
+
+    module _ (h : length events ≤ place) where
+      none-left : eventLines place (drop place events) ≡ []
+      unfolding eventLines
+      none-left = ap (eventLines place) (drop-of-length-le events {i = place} h)
+
+      pub printed-count : at ≡ length (eventsText events)
+      printed-count = omega (arith, ap length none-left, p .counted, text-length events)
+
+      pub printed-end : now ≡ sets lent 18 (eventLines 0 events)
+      printed-end = filling-end (rw none-left at (p .filled))

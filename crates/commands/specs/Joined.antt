@@ -1,0 +1,14 @@
+-- One program behind the other: what `modulate` takes, `demodulate` gives back.
+-- Assumes nothing.
+use mathlib.Core.Path.{_≡_}
+use mathlib.Core.List.{List, _∷_}
+use Prim.Native.Nat.{ℕ, _+_}
+use Rattle.promise.specs.Recordings.{AreBytes}
+use Rattle.commands.specs.Lines.{eventsText}
+use Rattle.commands.specs.Programs.{sendNumber, modulated, demodulated}
+
+-- for every message that is not refused, the event lines are those of exactly that message
+abbrev pub ReadBack : Type 0
+ReadBack =
+    (band : ℕ) (message : List ℕ) → AreBytes message → sendNumber band message ≡ 0
+    → demodulated (modulated ((48 + band) ∷ message)) ≡ eventsText message

@@ -1,0 +1,60 @@
+-- What each program prints, from what it reads: document 01, "Sheet and programs".
+-- Assumes nothing.
+use mathlib.Core.Path.{_≡_}
+use mathlib.Core.Bool.{cond, not}
+use mathlib.Core.List.{List, [], _∷_, _++_}
+use Prim.Native.Nat.{ℕ, _-_, _≤_}
+use lib.Dec.{ltb, eqb}
+use lib.IntN.{ℤ}
+use lib.ListN.{length, getD, take, drop}
+use Rattle.text.specs.Numbers.{isDigit}
+use Rattle.tones.specs.Bands.{isBand, tonesOf}
+use Rattle.transmitter.specs.Samples.{sendBits, messageBits}
+use Rattle.receiver.specs.Step.{eventsAfter}
+use Rattle.receiver.specs.Calls.{fresh}
+use Rattle.sheet.specs.Text.{sheetOf}
+use Rattle.sheet.specs.Parse.{bandIn, samplesOf}
+use Rattle.sheet.specs.Calls.{readNumber, writeNumber}
+use Rattle.commands.specs.Lines.{refusalLines, eventsText}
+
+-- ---- modulate
+
+-- the samples of leader, characters and trailer
+abbrev pub messageOf : ℕ → List ℕ → List ℤ
+messageOf band bytes = sendBits (tonesOf band) 0 (messageBits bytes)
+
+-- the first refusal of the opening, of the characters call, and of a sheet for which there is always room
+unfoldable pub sendNumber : ℕ → List ℕ → ℕ
+sendNumber band bytes =
+    cond (not (isBand band)) 1
+    (cond (ltb 100 (length bytes)) 3
+    (writeNumber band (messageOf band bytes) 65536))
+
+-- the sheet, or the refusal
+unfoldable pub sendingOf : ℕ → List ℕ → List ℕ
+sendingOf band bytes =
+    let n : ℕ = sendNumber band bytes in
+    cond (eqb n 0) (sheetOf band (messageOf band bytes)) (refusalLines n)
+
+-- a band digit, and every byte behind it as a character; no digit, no band
+unfoldable pub modulated : List ℕ → List ℕ
+modulated [] = refusalLines 1
+modulated (first ∷ bytes) = cond (isDigit first) (sendingOf (first - 48) bytes) (refusalLines 1)
+
+-- ---- demodulate
+
+-- the events of a fresh receiver of the sheet's band, or the refusal of a reading for which there is always room
+unfoldable pub demodulated : List ℕ → List ℕ
+demodulated text =
+    let n : ℕ = readNumber text 16384 in
+    cond (eqb n 0) (eventsText (eventsAfter (fresh (bandIn text)) (samplesOf text))) (refusalLines n)
+
+-- ---- what a caller's buffer holds
+
+-- a text over its front
+abbrev pub over : List ℕ → List ℕ → List ℕ
+over text lent = text ++ drop (length text) lent
+
+-- `count` places are at the buffer's front; it follows from the text's length, and spares a caller that lends them a proof
+abbrev pub Front : ℕ → List ℕ → Type 0
+Front count lent = (count ≤ length lent) × (count ≡ length (take count lent))

@@ -1,0 +1,2 @@
+// The two programs as functions from bytes to bytes.
+mod lines;
