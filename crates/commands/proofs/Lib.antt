@@ -1,3 +1,5 @@
 pub mod Programs
 pub mod Joined
 pub mod Printing
+pub mod Answers
+pub mod Sending

@@ -1,41 +1,54 @@
 -- The cases of what each program prints, each under the tests that lead to it, and what is known when a message is accepted.
 -- Assumes nothing.
-use mathlib.Core.Path.{_≡_}
+use mathlib.Core.Path.{_≡_, sym, ap, _∙_}
 use mathlib.Core.Bool.{true, false, not}
 use mathlib.Core.List.{List, _∷_}
 use Prim.Native.Nat.{ℕ, _-_, _<_, _≤_}
 use native.Mathlib.Omega.{arith}
-use borrow.Author.Tests.{lt-ltb, le-ltb, ltb-false, ne-eqb}
+use borrow.Author.Tests.{ltb-false, ne-eqb}
 use lib.Dec.{ltb}
-use lib.ListN.{length}
-use Rattle.integers.proofs.Tests.{cond-split}
+use lib.IntN.{ℤ}
+use lib.ListN.{length, getD, take, drop, length-append, length-drop, drop-of-length-le}
+use lib.Seq.{take-all, take-at, drop-cons}
+use Rattle.integers.proofs.Tests.{cond-split, cond-case}
 use Rattle.text.specs.Numbers.{isDigit}
 use Rattle.tones.specs.Bands.{isBand}
+use Rattle.tones.specs.Samples.{areSamples}
 use Rattle.receiver.specs.Step.{eventsAfter}
 use Rattle.receiver.specs.Calls.{fresh}
 use Rattle.sheet.specs.Text.{sheetOf}
-use Rattle.sheet.specs.Parse.{bandIn, samplesOf}
+use Rattle.sheet.specs.Parse.{isSheet, bandIn, samplesOf}
 use Rattle.sheet.specs.Calls.{readNumber, writeNumber}
 use Rattle.sheet.proofs.Calls.{Writable, writable}
 use Rattle.commands.specs.Lines.{refusalLines, eventsText}
-use Rattle.commands.specs.Programs.{messageOf, sendNumber, sendingOf, modulated, demodulated}
+use Rattle.commands.specs.Programs.{messageOf, sendNumber, sendingOf, modulated, demodulated, over, Front}
 
--- ---- the number of a message
+-- ---- numbers, all of them below 10
+
+write-small : (band : ℕ) (samples : List ℤ) (room : ℕ) → writeNumber band samples room < 10
+unfolding writeNumber
+write-small band samples room =
+    let P : ℕ → Type 0 = λ k. k < 10 in
+    cond-case P (not (isBand band)) _ _ (omega arith)
+    (cond-case P (ltb 16384 (length samples)) _ _ (omega arith)
+    (cond-case P (not (areSamples samples)) _ _ (omega arith)
+    (cond-case P (ltb 65536 (length (sheetOf band samples))) _ _ (omega arith)
+    (cond-case P (ltb room (length (sheetOf band samples))) _ _ (omega arith) (omega arith)))))
+
+pub read-small : (text : List ℕ) (room : ℕ) → readNumber text room < 10
+unfolding readNumber
+read-small text room =
+    let P : ℕ → Type 0 = λ k. k < 10 in
+    cond-case P (ltb 65536 (length text)) _ _ (omega arith)
+    (cond-case P (not (isSheet text)) _ _ (omega arith)
+    (cond-case P (not (isBand (bandIn text))) _ _ (omega arith)
+    (cond-case P (ltb 16384 (length (samplesOf text))) _ _ (omega arith)
+    (cond-case P (not (areSamples (samplesOf text))) _ _ (omega arith)
+    (cond-case P (ltb room (length (samplesOf text))) _ _ (omega arith) (omega arith))))))
+
+-- ---- a message that is accepted
 
 module _ (band : ℕ) (bytes : List ℕ) where
-  pub no-band : isBand band ≡ false → 1 ≡ sendNumber band bytes
-  unfolding sendNumber
-  no-band b = rw b
-
-  module _ (b : isBand band ≡ true) where
-    pub too-many : 100 < length bytes → 3 ≡ sendNumber band bytes
-    unfolding sendNumber
-    too-many h = rw (b, lt-ltb 100 (length bytes) h)
-
-    pub few-enough : length bytes ≤ 100 → writeNumber band (messageOf band bytes) 65536 ≡ sendNumber band bytes
-    unfolding sendNumber
-    few-enough h = rw (b, le-ltb 100 (length bytes) h)
-
   -- what holds when a message is accepted
   pub record Sendable : Type 0 where
     pub few : length bytes ≤ 100
@@ -49,6 +62,13 @@ module _ (band : ℕ) (bytes : List ℕ) where
       (λ known.
       cond-split P (ltb 100 (length bytes)) 3 _ (λ t e. absurd (omega arith))
       (λ few e. record { few = ltb-false 100 (length bytes) few; written = writable band (messageOf band bytes) 65536 e }))
+
+  pub send-small : sendNumber band bytes < 10
+  unfolding sendNumber
+  send-small =
+      let P : ℕ → Type 0 = λ k. k < 10 in
+      cond-case P (not (isBand band)) _ _ (omega arith)
+      (cond-case P (ltb 100 (length bytes)) _ _ (omega arith) (write-small band (messageOf band bytes) 65536))
 
 -- ---- what `modulate` prints
 
@@ -65,9 +85,28 @@ pub digit-first : (first : ℕ) (bytes : List ℕ) → isDigit first ≡ true �
 unfolding modulated
 digit-first first bytes d = rw d
 
-pub no-digit : (first : ℕ) (bytes : List ℕ) → isDigit first ≡ false → refusalLines 1 ≡ modulated (first ∷ bytes)
-unfolding modulated
-no-digit first bytes d = rw d
+-- the first byte of the input, and those behind it
+module _ (input : List ℕ) where
+  pub input-empty : length input ≡ 0 → refusalLines 1 ≡ modulated input
+  unfolding modulated
+  input-empty h = rw (drop-of-length-le input {i = 0} (omega arith))
+
+  module _ (h : 0 < length input) where
+    abbrev first : ℕ
+    first = getD input 0 0
+
+    parts : input ≡ first ∷ drop 1 input
+    parts = drop-cons input 0 0 h
+
+    pub input-other : isDigit first ≡ false → refusalLines 1 ≡ modulated input
+    unfolding modulated
+    input-other d = rw parts (rw d)
+
+    pub input-digit : isDigit first ≡ true → sendingOf (first - 48) (take (length input - 1) (drop 1 input)) ≡ modulated input
+    input-digit d =
+        ap (sendingOf (first - 48)) (take-all (length input - 1) (drop 1 input) (omega (arith, length-drop 1 input)))
+        ∙ digit-first first (drop 1 input) d
+        ∙ ap modulated (sym parts)
 
 -- ---- what `demodulate` prints
 
@@ -79,3 +118,16 @@ module _ (text : List ℕ) where
   pub reading-accepted : readNumber text 16384 ≡ 0 → eventsText (eventsAfter (fresh (bandIn text)) (samplesOf text)) ≡ demodulated text
   unfolding demodulated
   reading-accepted e = rw e
+
+-- ---- what a caller is told of a buffer that is as long as before
+
+module _ (text lent now : List ℕ) (count : ℕ) (c : count ≡ length text) (e : now ≡ over text lent) (l : length now ≡ length lent) where
+  front : Front count now
+  front =
+      let rest = drop (length text) lent in
+      let t = ap (take count) e ∙ take-at text rest count (sym c) in
+      (omega (arith, ap length e, length-append text rest), c ∙ sym (ap length t))
+
+  -- the text is the one that was to be printed
+  pub printed : (wanted : List ℕ) → text ≡ wanted → (count ≡ length wanted) × ((now ≡ over wanted lent) × Front count now)
+  printed wanted w = (c ∙ ap length w, (e ∙ ap (λ (t : List ℕ). over t lent) w, front))

@@ -6,7 +6,8 @@ use mathlib.Core.List.{List, [], _∷_, _++_}
 use Prim.Native.Nat.{ℕ, _-_, _≤_}
 use lib.Dec.{ltb, eqb}
 use lib.IntN.{ℤ}
-use lib.ListN.{length, getD, take, drop}
+use lib.ListN.{length, take, drop}
+use Rattle.calls.specs.Outcome.{Outcome, refused, accepted}
 use Rattle.text.specs.Numbers.{isDigit}
 use Rattle.tones.specs.Bands.{isBand, tonesOf}
 use Rattle.transmitter.specs.Samples.{sendBits, messageBits}
@@ -48,6 +49,17 @@ unfoldable pub demodulated : List ℕ → List ℕ
 demodulated text =
     let n : ℕ = readNumber text 16384 in
     cond (eqb n 0) (eventsText (eventsAfter (fresh (bandIn text)) (samplesOf text))) (refusalLines n)
+
+-- ---- leader, characters and trailer as one call; there is no state
+
+-- 1, 3, or none
+unfoldable pub messageNumber : ℕ → List ℕ → ℕ
+messageNumber band bytes = cond (not (isBand band)) 1 (cond (ltb 100 (length bytes)) 3 0)
+
+unfoldable pub messageCall : ℕ → List ℕ → List ℤ → Outcome Unit ℤ
+messageCall band bytes lent =
+    let n : ℕ = messageNumber band bytes in
+    cond (eqb n 0) (accepted tt (messageOf band bytes) lent) (refused n tt lent)
 
 -- ---- what a caller's buffer holds
 
