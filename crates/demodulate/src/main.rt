@@ -1,0 +1,12 @@
+// Prints the events of the sheet on standard input, one to a line.
+use libc::STDIN_FILENO;
+use libc::STDOUT_FILENO;
+
+fn main() {
+    // One byte more than a sheet has at most, so that a sheet that is too long is refused.
+    let mut text = [0u8; 65537];
+    let n = io::read_full(STDIN_FILENO, &mut text);
+    let mut out = [0u8; 4806];
+    let len = commands::demodulate(&text[..n], &mut out);
+    io::write_all(STDOUT_FILENO, &out[..len]);
+}

@@ -1,0 +1,12 @@
+// Prints the sheet of a message: standard input is a band digit and the characters behind it.
+use libc::STDIN_FILENO;
+use libc::STDOUT_FILENO;
+
+fn main() {
+    // A digit, 100 characters and one byte more, so that a message that is too long is refused.
+    let mut input = [0u8; 102];
+    let n = io::read_full(STDIN_FILENO, &mut input);
+    let mut out = [0u8; 65536];
+    let len = commands::modulate(&input[..n], &mut out);
+    io::write_all(STDOUT_FILENO, &out[..len]);
+}
