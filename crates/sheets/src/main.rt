@@ -1,5 +1,6 @@
 // Reads and writes sheets of many kinds, and prints what each call answers and every place of its buffer afterwards. The places
-// hold 7777, or a dot, before a call, so that an untouched one shows.
+// hold 7777, or a dot, before a call, so that an untouched one shows. Then prints what the two programs' functions give.
+mod programs;
 mod reading;
 mod showing;
 mod writing;
@@ -13,4 +14,6 @@ fn main() {
     writing::order();
     writing::places();
     writing::lengths();
+    programs::modulate();
+    programs::demodulate();
 }
