@@ -1,3 +1,4 @@
 pub mod Filling
 pub mod Runs
 pub mod Lists
+pub mod Answers

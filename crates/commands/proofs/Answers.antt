@@ -1,51 +1,21 @@
--- What the answer of a call tells: its number decides, and an accepted call's list is the front of the lent one that the count covers.
+-- What the answers of the three calls tell: the sending of a message, and the reading and the writing of a sheet.
 -- Assumes nothing.
-use mathlib.Core.Path.{_≡_, refl, sym, ap, _∙_}
-use mathlib.Core.Bool.{cond}
+use mathlib.Core.Path.{_≡_}
 use mathlib.Core.List.{List}
-use Prim.Native.Nat.{ℕ, _≤_}
-use native.Mathlib.Omega.{arith}
-use borrow.Author.Tests.{eqb-true, eqb-false}
-use lib.Dec.{eqb}
+use Prim.Native.Nat.{ℕ}
 use lib.IntN.{ℤ}
-use lib.ListN.{length, take, drop, length-append}
-use lib.Seq.{take-append-seam}
-use Rattle.integers.proofs.Tests.{cond-split}
-use Rattle.calls.specs.Outcome.{Outcome, refused, accepted, front}
+use lib.ListN.{length}
+use Rattle.calls.specs.Outcome.{Outcome}
+use Rattle.calls.proofs.Answers.{Answered, answered}
 use Rattle.sheet.specs.Text.{sheetOf}
 use Rattle.sheet.specs.Parse.{bandIn, samplesOf}
 use Rattle.sheet.specs.Calls.{readNumber, readOf, writeNumber, writeOf}
+use Rattle.commands.specs.Programs.{messageOf, messageNumber, messageCall}
 
-module _ {S A : Type 0} (s : S) (xs lent : List A) where
-  -- an accepted call
-  module _ (o : Outcome S A) (e : o ≡ accepted s xs lent) where
-    pub given-count : o .count ≡ length xs
-    given-count = ap (λ (p : Outcome S A). p .count) e
-
-    pub given-front : take (o .count) (o .lent) ≡ xs
-    given-front = ap front e ∙ take-append-seam xs (drop (length xs) lent)
-
-    pub given-part : o .count ≡ length (take (o .count) (o .lent))
-    given-part = given-count ∙ sym (ap length given-front)
-
-    pub given-room : o .count ≤ length (o .lent)
-    given-room =
-        omega (arith, given-count, ap (λ (p : Outcome S A). length (p .lent)) e, length-append xs (drop (length xs) lent))
-
-  -- a call that refuses with a number that is not 0, and is accepted otherwise
-  pub record Answered (number : ℕ) (o : Outcome S A) : Type 0 where
-    pub told : o .number ≡ number
-    pub kept : (number ≡ 0 → ⊥) → o .lent ≡ lent
-    pub given : number ≡ 0 → o ≡ accepted s xs lent
-
-  pub answered : (number : ℕ) (t : S) (o : Outcome S A) → o ≡ cond (eqb number 0) (accepted s xs lent) (refused number t lent) → Answered number o
-  answered number t o e =
-      rw e
-      (cond-split (Answered number) (eqb number 0) (accepted s xs lent) (refused number t lent)
-      (λ z. let n = eqb-true number 0 z in record { told = sym n; kept = λ h. absurd (h n); given = λ h. refl })
-      (λ z. record { told = refl; kept = λ h. refl; given = λ h. absurd (eqb-false number 0 z h) }))
-
--- ---- the sheet calls
+pub message-answer : (band : ℕ) (bytes : List ℕ) (lent : List ℤ) (o : Outcome Unit ℤ) → o ≡ messageCall band bytes lent
+    → Answered tt (messageOf band bytes) lent (messageNumber band bytes) o
+unfolding messageCall
+message-answer band bytes lent o e = answered tt (messageOf band bytes) lent (messageNumber band bytes) tt o e
 
 pub write-answer : (band : ℕ) (samples : List ℤ) (lent : List ℕ) (o : Outcome Unit ℕ) → o ≡ writeOf band samples lent
     → Answered tt (sheetOf band samples) lent (writeNumber band samples (length lent)) o

@@ -1,20 +1,19 @@
 -- The calls of a message: what each leaves when it is accepted, the numbers that refuse, and three parts that make the samples.
 -- Assumes nothing.
 use mathlib.Core.Path.{_≡_, refl, sym, ap, ap₂, _∙_}
-use mathlib.Core.Bool.{true, false, not, cond}
-use mathlib.Core.List.{List, _++_, append-nil}
+use mathlib.Core.Bool.{true, false, not}
+use mathlib.Core.List.{List, _++_}
 use Prim.Native.Nat.{ℕ, _+_, _*_, _<_, _≤_}
-use native.Mathlib.Nat.{zero-add}
 use native.Mathlib.Decide.{decLe}
 use native.Mathlib.Omega.{arith}
-use borrow.Author.Tests.{lt-ltb, le-ltb, ltb-false, ne-eqb, not-false}
+use borrow.Author.Tests.{lt-ltb, le-ltb, ne-eqb}
 use lib.Dec.{ltb}
 use lib.IntN.{ℤ}
-use lib.ListN.{length, drop, drop-of-length-le}
+use lib.ListN.{length}
 use lib.Seq.{sets}
-use Rattle.integers.proofs.Tests.{cond-split, cond-case}
-use Rattle.integers.proofs.Lists.{sets-append, sets-front}
-use Rattle.calls.specs.Outcome.{Outcome, outcome, refused, accepted}
+use Rattle.integers.proofs.Tests.{cond-split}
+use Rattle.integers.proofs.Lists.{sets-front}
+use Rattle.calls.specs.Outcome.{Outcome, outcome, refused}
 use Rattle.tones.specs.Bands.{isBand, tonesOf}
 use Rattle.transmitter.specs.declared.Transmitter.{Transmitter}
 use Rattle.transmitter.specs.declared.Opened.{Opened}
@@ -22,11 +21,10 @@ use Rattle.transmitter.specs.declared.Sent.{Sent}
 use Rattle.transmitter.specs.Samples.{bitSteps, idleBits, charactersBits}
 use Rattle.transmitter.specs.Calls.{fresh, openOf, inRange, samplesOf, afterBits, sent, idleOf, charactersOf}
 use Rattle.transmitter.proofs.Laws.{length-bits, length-characters, length-message, message-parts}
-use Rattle.transmitter.proofs.Rules.{fresh-kept, idle-0, characters-3, characters-0}
+use Rattle.transmitter.proofs.Rules.{fresh-kept, idle-0, characters-3, characters-0, next-state, samples-whole}
 use Rattle.transmitter.proofs.Lists.{steps-kept}
 use Rattle.sheet.specs.Calls.{writeNumber}
 use Rattle.commands.specs.Programs.{messageOf, messageNumber, messageCall, sendNumber}
-use Rattle.commands.proofs.Answers.{Answered, answered}
 
 -- ---- the opening
 
@@ -64,14 +62,10 @@ module _ (s : Transmitter) (kept : inRange s ≡ true) where
     idled = e ∙ idle-0 s lent kept (omega arith)
 
     pub idle-state : r .transmitter ≡ afterBits s idleBits
-    idle-state = ap (λ (o : Outcome Transmitter ℤ). o .state) idled
+    idle-state = next-state s idleBits r lent now idled
 
     pub idle-samples : now ≡ samplesOf s idleBits
-    idle-samples =
-        let l = length-bits (tonesOf (s .band)) (s .phase) idleBits in
-        ap (λ (o : Outcome Transmitter ℤ). o .lent) idled
-        ∙ ap (λ (xs : List ℤ). samplesOf s idleBits ++ xs) (drop-of-length-le lent {i = length (samplesOf s idleBits)} (omega arith))
-        ∙ append-nil (samplesOf s idleBits)
+    idle-samples = samples-whole s idleBits r lent now idled (omega arith)
 
   -- characters into the places for 100 of them
   module _ (bytes : List ℕ) (lent : List ℤ) (places : length lent ≡ 32000) (o : Outcome Transmitter ℤ) (e : o ≡ charactersOf s bytes lent) where
@@ -102,15 +96,6 @@ module _ (s : Transmitter) (kept : inRange s ≡ true) where
     characters-refused n = many-refused (characters-many n)
 
 -- ---- three parts
-
-pub three-parts : (lent a b c : List ℤ) (n : ℕ) → length a ≡ 96 → length b ≡ n
-    → sets (sets (sets lent 0 a) 96 b) (96 + n) c ≡ sets lent 0 (a ++ (b ++ c))
-three-parts lent a b c n la lb =
-    sym
-    (sets-append lent 0 a (b ++ c)
-    ∙ ap (λ (k : ℕ). sets (sets lent 0 a) k (b ++ c)) (zero-add (length a) ∙ la)
-    ∙ sets-append (sets lent 0 a) 96 b c
-    ∙ ap (λ (k : ℕ). sets (sets (sets lent 0 a) 96 b) (96 + k) c) lb)
 
 module _ (band : ℕ) (bytes : List ℕ) where
   abbrev pub begun : Transmitter
@@ -165,10 +150,6 @@ module _ (band : ℕ) (bytes : List ℕ) where
         let size : count ≡ length (messageOf band bytes) = ec ∙ sym l in
         let filled = en ∙ sets-front (messageOf band bytes) lent (omega arith) in
         (λ i. record { number = 0; count = size i; state = tt; lent = filled i }) ∙ rw (call-0 b h)
-
-    pub message-answer : (o : Outcome Unit ℤ) → o ≡ messageCall band bytes lent → Answered tt (messageOf band bytes) lent n o
-    unfolding messageCall
-    message-answer o e = answered tt (messageOf band bytes) lent n tt o e
 
   -- and how its number goes into that of the program
   abbrev Leads : ℕ → Type 0

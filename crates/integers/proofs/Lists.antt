@@ -26,6 +26,14 @@ module _ {A : Type 0} where
   sets-append l i [] ys = rw add-zero
   sets-append l i (x ∷ xs) ys = rw (add-suc, ← suc-add) (sets-append (set l i x) (suc i) xs ys)
 
+  -- and in three, from the front on
+  pub sets-three : (l xs ys zs : List A) {m n : ℕ} → length xs ≡ m → length ys ≡ n → sets l 0 (xs ++ (ys ++ zs)) ≡ sets (sets (sets l 0 xs) m ys) (m + n) zs
+  sets-three l xs ys zs {m} ex ey =
+      sets-append l 0 xs (ys ++ zs)
+      ∙ ap (λ (k : ℕ). sets (sets l 0 xs) k (ys ++ zs)) (zero-add (length xs) ∙ ex)
+      ∙ sets-append (sets l 0 xs) m ys zs
+      ∙ ap (λ (k : ℕ). sets (sets (sets l 0 xs) m ys) (m + k) zs) ey
+
   -- stores behind the end do nothing
   pub sets-out : (l : List A) (i : ℕ) (xs : List A) → length l ≤ i → sets l i xs ≡ l
   sets-out l i [] h = refl

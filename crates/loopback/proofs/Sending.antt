@@ -1,4 +1,4 @@
--- What a sending call leaves in its buffer, and that three parts, disturbed and put one behind the other, are the recording.
+-- What is asked of a part, and that three parts, disturbed and put one behind the other, are the recording.
 -- Assumes nothing.
 use mathlib.Core.Path.{_≡_, sym, ap, _∙_}
 use mathlib.Core.List.{List, _++_, append-nil}
@@ -11,7 +11,7 @@ use lib.Seq.{sets, take-at, drop-drop}
 use Rattle.integers.specs.Near.{altered}
 use Rattle.integers.specs.Sums.{Bounded}
 use Rattle.integers.proofs.Near.{length-altered, altered-append}
-use Rattle.integers.proofs.Lists.{sets-append}
+use Rattle.integers.proofs.Lists.{sets-three}
 use Rattle.calls.specs.Outcome.{Outcome, outcome}
 use Rattle.tones.specs.declared.Tones.{Tones}
 use Rattle.tones.specs.Bands.{tonesOf}
@@ -22,23 +22,7 @@ use Rattle.transmitter.specs.Calls.{fresh, samplesOf, afterBits, sent}
 use Rattle.transmitter.proofs.Laws.{length-bits, length-characters, length-message, send-bound, message-parts}
 use Rattle.loopback.specs.Loopback.{samplesFor, recordedOf, Disturbs}
 
--- ---- an accepted call: the buffer was `part` and is `now`
-
-module _ (s : Transmitter) (bits : List ℕ) (r : Sent) (part now : List ℤ) (e : outcome (r .answer) (r .transmitter) now ≡ sent s bits part) where
-  pub next-state : r .transmitter ≡ afterBits s bits
-  next-state = ap (λ (o : Outcome Transmitter ℤ). o .state) e
-
-  pub samples-front : (n : ℕ) → 32 * length bits ≡ n → take n now ≡ samplesOf s bits
-  samples-front n l =
-      ap (λ (o : Outcome Transmitter ℤ). take n (o .lent)) e
-      ∙ take-at (samplesOf s bits) (drop (length (samplesOf s bits)) part) n (length-bits (tonesOf (s .band)) (s .phase) bits ∙ l)
-
-  pub samples-whole : length part ≤ 32 * length bits → now ≡ samplesOf s bits
-  samples-whole h =
-      let l = length-bits (tonesOf (s .band)) (s .phase) bits in
-      ap (λ (o : Outcome Transmitter ℤ). o .lent) e
-      ∙ ap (λ (xs : List ℤ). samplesOf s bits ++ xs) (drop-of-length-le part {i = length (samplesOf s bits)} (omega arith))
-      ∙ append-nil (samplesOf s bits)
+-- ---- a part
 
 -- what `put_disturbed` asks of them
 pub put-asks : (s : Transmitter) (bits : List ℕ) (xs : List ℤ) → xs ≡ samplesOf s bits → (n at : ℕ) (disturbance out : List ℤ)
@@ -77,11 +61,7 @@ module _ (a b c ds lent : List ℤ) (n : ℕ) (la : length a ≡ 96) (lb : lengt
 
   sets-parts : sets lent 0 (altered (a ++ (b ++ c)) ds) ≡ sets (sets (sets lent 0 first) 96 second) (96 + n) third
   sets-parts =
-      ap (sets lent 0) altered-parts
-      ∙ sets-append lent 0 first (second ++ third)
-      ∙ ap (λ (k : ℕ). sets (sets lent 0 first) k (second ++ third)) (zero-add (length first) ∙ length-altered a ds ∙ la)
-      ∙ sets-append (sets lent 0 first) 96 second third
-      ∙ ap (λ (k : ℕ). sets (sets (sets lent 0 first) 96 second) (96 + k) third) (length-altered b (drop 96 ds) ∙ lb)
+      ap (sets lent 0) altered-parts ∙ sets-three lent first second third (length-altered a ds ∙ la) (length-altered b (drop 96 ds) ∙ lb)
 
 module _ (band : ℕ) (cs : List ℕ) (ds lent : List ℤ) where
   abbrev t : Tones

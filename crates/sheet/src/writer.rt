@@ -78,10 +78,7 @@ fn put_number(out: &mut [u8], at: usize, n: u16) -> usize
     ensures place { λ r. ⌜ r ≡ at + length (decimal n ++ (10 ∷ [])) ⌝ }
     ensures lent { λ r. ⌜ now (out .exit) ≡ sets (now (out .entry)) at (decimal n ++ (10 ∷ [])) ⌝ }
 {
-    let digits = text::decimal(n);
-    let bytes = digits.bytes;
-    let len = digits.len;
-    text::put(out, at, &bytes[..len]);
+    let len = text::put_decimal(out, at, n);
     text::put(out, at + len, b"\n");
     at + len + 1
 }

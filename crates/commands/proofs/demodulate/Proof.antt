@@ -8,6 +8,7 @@ use borrow.Author.Needs.{needs}
 use lib.IntN.{ℤ, pos}
 use lib.ListN.{length, replicate}
 use Rattle.calls.specs.Outcome.{Outcome, outcome, accepted}
+use Rattle.calls.proofs.Answers.{Answered, given-front, given-part, given-room}
 use Rattle.receiver.specs.Step.{eventsAfter}
 use Rattle.receiver.specs.Calls.{fresh}
 use Rattle.sheet.specs.Parse.{bandIn, samplesOf}
@@ -15,7 +16,7 @@ use Rattle.sheet.specs.Calls.{readNumber}
 use Rattle.sheet.proofs.Calls.{Readable, readable}
 use Rattle.commands.specs.Lines.{eventsText}
 use Rattle.commands.specs.Programs.{demodulated}
-use Rattle.commands.proofs.Answers.{Answered, given-front, given-part, given-room, read-answer}
+use Rattle.commands.proofs.Answers.{read-answer}
 use Rattle.commands.proofs.Programs.{read-small, reading-refused, reading-accepted, printed}
 use Rattle.commands.proofs.demodulate.Statement.{statement}
 use Rattle.commands.proofs.demodulate.Tie as tie

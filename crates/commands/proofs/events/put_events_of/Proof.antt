@@ -2,12 +2,13 @@
 -- Assumes nothing.
 use mathlib.Core.Path.{_≡_, ap, _∙_}
 use mathlib.Core.List.{List}
-use Prim.Native.Nat.{ℕ, _≤_}
+use Prim.Native.Nat.{ℕ}
 use native.Mathlib.Omega.{arith}
 use borrow.Author.Needs.{needs}
 use lib.IntN.{ℤ}
 use lib.ListN.{length, replicate}
 use Rattle.calls.specs.Outcome.{Outcome, outcome, accepted}
+use Rattle.calls.proofs.Answers.{given-front, given-part, given-room}
 use Rattle.receiver.specs.declared.Receiver.{Receiver}
 use Rattle.receiver.specs.declared.Opened.{Opened}
 use Rattle.receiver.specs.Step.{stateAfter, eventsAfter}
@@ -16,7 +17,6 @@ use Rattle.receiver.proofs.Ranges.{open-band, fresh-kept}
 use Rattle.receiver.proofs.Calls.{block-0}
 use Rattle.commands.specs.Lines.{eventsText}
 use Rattle.commands.specs.Programs.{over}
-use Rattle.commands.proofs.Answers.{given-front, given-part, given-room}
 use Rattle.commands.proofs.events.put_events_of.Statement.{statement}
 use Rattle.commands.proofs.events.put_events_of.Tie as tie
 

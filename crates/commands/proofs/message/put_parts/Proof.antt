@@ -1,13 +1,13 @@
 -- `commands::message::put_parts` meets its contract.
 -- Assumes nothing.
-use mathlib.Core.Path.{_≡_, refl, ap, _∙_}
+use mathlib.Core.Path.{refl, sym, ap, _∙_}
 use mathlib.Core.List.{List}
 use Prim.Native.Nat.{_+_}
 use borrow.Author.Needs.{needs}
 use lib.IntN.{ℤ}
 use lib.ListN.{length}
 use lib.Seq.{sets}
-use Rattle.commands.proofs.Sending.{three-parts}
+use Rattle.integers.proofs.Lists.{sets-three}
 use Rattle.commands.proofs.message.put_parts.Statement.{statement}
 use Rattle.commands.proofs.message.put_parts.Tie as tie
 
@@ -34,7 +34,7 @@ returns c =
     c .before .put3 .ensures
     ∙ ap (λ (xs : List ℤ). sets xs (96 + length (a .text .now)) (a .trailer .now))
     (second .put2 .ensures ∙ ap (λ (xs : List ℤ). sets xs 96 (a .text .now)) (first .put .ensures))
-    ∙ three-parts (a .samples .now) (a .leader .now) (a .text .now) (a .trailer .now) (length (a .text .now)) (search needs) refl
+    ∙ sym (sets-three (a .samples .now) (a .leader .now) (a .text .now) (a .trailer .now) (search needs) refl)
 
 pub put-parts-spec : {M : Type 1} → statement M
 put-parts-spec = tie.close (tie.spec put-requires put-requires-2 add-put put-requires-3 same-length returns)

@@ -8,11 +8,11 @@ use borrow.Author.Needs.{needs}
 use lib.IntN.{ℤ, pos}
 use lib.ListN.{length, replicate}
 use Rattle.calls.specs.Outcome.{Outcome, outcome, accepted}
+use Rattle.calls.proofs.Answers.{Answered, given-front, given-part, given-room}
 use Rattle.sheet.specs.Text.{sheetOf}
-use Rattle.commands.specs.Lines.{refusalLines}
 use Rattle.commands.specs.Programs.{messageOf, messageNumber, sendNumber, over}
-use Rattle.commands.proofs.Answers.{Answered, given-count, given-front, given-part, given-room, write-answer}
-use Rattle.commands.proofs.Sending.{message-answer, number-refused, number-sheet}
+use Rattle.commands.proofs.Answers.{message-answer, write-answer}
+use Rattle.commands.proofs.Sending.{number-refused, number-sheet}
 use Rattle.commands.proofs.Programs.{send-small, sending-refused, sending-accepted}
 use Rattle.commands.proofs.message.put_sheet.Statement.{statement}
 use Rattle.commands.proofs.message.put_sheet.Tie as tie

@@ -1,23 +1,21 @@
 -- `commands::message::send` meets its contract: the refusals are those of the calls, and what is given is three parts.
 -- Assumes nothing.
-use mathlib.Core.Path.{_≡_, refl, sym, ap, _∙_}
+use mathlib.Core.Path.{_≡_, refl, ap, _∙_}
 use mathlib.Core.Bool.{true}
 use mathlib.Core.List.{List}
-use Prim.Native.Nat.{ℕ, _+_, _*_, _≤_}
-use native.Mathlib.Nat.{le-refl}
+use Prim.Native.Nat.{ℕ, _*_, _≤_}
 use native.Mathlib.Omega.{arith}
 use borrow.Author.Needs.{needs}
 use lib.IntN.{ℤ, pos}
-use lib.ListN.{length, take, replicate, length-replicate}
+use lib.ListN.{length, take, replicate}
 use lib.Seq.{sets}
 use Rattle.calls.specs.Outcome.{Outcome, outcome}
+use Rattle.calls.proofs.Answers.{given-count, given-front, given-part, given-room}
 use Rattle.tones.specs.Bands.{isBand}
 use Rattle.transmitter.specs.declared.Transmitter.{Transmitter}
 use Rattle.transmitter.specs.Samples.{idleBits, charactersBits}
 use Rattle.transmitter.specs.Calls.{fresh, inRange, samplesOf, sent, idleOf, charactersOf}
 use Rattle.transmitter.proofs.Rules.{fresh-kept}
-use Rattle.commands.specs.Programs.{messageOf}
-use Rattle.commands.proofs.Answers.{given-count, given-front, given-part, given-room}
 use Rattle.commands.proofs.Sending.{
   opened-band,
   opened-fresh,

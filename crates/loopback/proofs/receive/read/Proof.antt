@@ -1,14 +1,15 @@
 -- `loopback::receive::read` meets its contract: the block is accepted, and its events are put behind those that are there.
 -- Assumes nothing.
-use mathlib.Core.Path.{_≡_, sym, ap, _∙_}
+use mathlib.Core.Path.{_≡_, ap, _∙_}
 use mathlib.Core.List.{List}
-use Prim.Native.Nat.{ℕ, _+_, _≤_}
+use Prim.Native.Nat.{ℕ, _+_}
 use native.Mathlib.Omega.{arith}
 use borrow.Author.Needs.{needs}
 use lib.IntN.{ℤ}
-use lib.ListN.{length, take, drop, replicate, length-append, length-replicate}
-use lib.Seq.{sets, take-append-seam}
-use Rattle.calls.specs.Outcome.{Outcome, outcome, accepted, front}
+use lib.ListN.{length, take, replicate, length-replicate}
+use lib.Seq.{sets}
+use Rattle.calls.specs.Outcome.{Outcome, outcome, accepted}
+use Rattle.calls.proofs.Answers.{given-count, given-front, given-part, given-room}
 use Rattle.receiver.specs.declared.Receiver.{Receiver}
 use Rattle.receiver.specs.Step.{stateAfter, eventsAfter}
 use Rattle.receiver.proofs.Calls.{block-0}
@@ -43,15 +44,10 @@ module _ (c : tie.After-block-by-value) where
   next-state = ap (λ (o : Outcome Receiver ℕ). o .state) is-accepted
 
   counted : count ≡ length (eventsAfter s xs)
-  counted = ap (λ (o : Outcome Receiver ℕ). o .count) is-accepted
+  counted = given-count (stateAfter s xs) (eventsAfter s xs) places _ is-accepted
 
   events : take count left ≡ eventsAfter s xs
-  events = ap front is-accepted ∙ take-append-seam (eventsAfter s xs) (drop (length (eventsAfter s xs)) places)
-
-  long : count ≤ length left
-  long =
-      omega
-      (arith, counted, ap (λ (o : Outcome Receiver ℕ). length (o .lent)) is-accepted, length-append (eventsAfter s xs) (drop (length (eventsAfter s xs)) places))
+  events = given-front (stateAfter s xs) (eventsAfter s xs) places _ is-accepted
 
 -- ---- what is asked and left
 
@@ -62,10 +58,14 @@ block-by-value-requires : tie.Need-block-by-value-requires
 block-by-value-requires c κs = tt
 
 array-share-prefix-part : tie.Need-array-share-prefix-part
-array-share-prefix-part c = long (c .before .before .before .before)
+array-share-prefix-part c =
+    let b = c .before .before .before .before in
+    given-room (stateAfter (s b) (xs b)) (eventsAfter (s b) (xs b)) places _ (is-accepted b)
 
 slice-aggregate-put : tie.Need-slice-aggregate-put
-slice-aggregate-put c = counted (c .before .before .before .before .before) ∙ sym (ap length (events (c .before .before .before .before .before)))
+slice-aggregate-put c =
+    let b = c .before .before .before .before .before in
+    given-part (stateAfter (s b) (xs b)) (eventsAfter (s b) (xs b)) places _ (is-accepted b)
 
 put-requires : tie.Need-put-requires
 put-requires c κs =

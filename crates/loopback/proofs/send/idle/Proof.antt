@@ -11,8 +11,8 @@ use Rattle.integers.specs.Near.{altered}
 use Rattle.calls.specs.Outcome.{outcome}
 use Rattle.transmitter.specs.Samples.{idleBits}
 use Rattle.transmitter.specs.Calls.{samplesOf, sent}
-use Rattle.transmitter.proofs.Rules.{idle-0}
-use Rattle.loopback.proofs.Sending.{next-state, samples-whole, put-asks}
+use Rattle.transmitter.proofs.Rules.{idle-0, next-state, samples-whole}
+use Rattle.loopback.proofs.Sending.{put-asks}
 use Rattle.loopback.proofs.send.idle.Statement.{statement}
 use Rattle.loopback.proofs.send.idle.Tie as tie
 

@@ -15,8 +15,8 @@ use Rattle.transmitter.specs.declared.Transmitter.{Transmitter}
 use Rattle.transmitter.specs.Samples.{charactersBits}
 use Rattle.transmitter.specs.Calls.{samplesOf, sent}
 use Rattle.transmitter.proofs.Laws.{length-bits}
-use Rattle.transmitter.proofs.Rules.{characters-0}
-use Rattle.loopback.proofs.Sending.{next-state, samples-front, put-asks, characters-count}
+use Rattle.transmitter.proofs.Rules.{characters-0, next-state, samples-front}
+use Rattle.loopback.proofs.Sending.{put-asks, characters-count}
 use Rattle.loopback.proofs.send.text.Statement.{statement}
 use Rattle.loopback.proofs.send.text.Tie as tie
 
