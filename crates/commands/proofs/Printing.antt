@@ -13,7 +13,7 @@ use Rattle.integers.proofs.Tests.{cond-case}
 use Rattle.integers.proofs.Lists.{sets-append, sets-front}
 use Rattle.calls.proofs.Filling.{Filling, filling-start, filling-more, filling-end}
 use Rattle.text.specs.Numbers.{decimal, hexadecimal}
-use Rattle.text.proofs.Numbers.{decimal-small, length-decimal, length-hexadecimal}
+use Rattle.text.proofs.Numbers.{length-decimal, length-hexadecimal}
 use Rattle.commands.specs.Lines.{refusedLine, refusalLines, kindOf, valueOf, fieldsOf, eventLine, eventLines, namesLine, eventsText}
 use Rattle.commands.specs.Programs.{over}
 
@@ -55,20 +55,20 @@ length-lines place (event ∷ events) h =
 
 -- ---- parts that are put one behind the other
 
--- a refusal's number below 10 is one digit
-module _ (number : ℕ) (h : number < 10) where
-  digit-lines : refusalLines number ≡ refusedLine ++ ((48 + number) ∷ 10 ∷ [])
+-- a refusal's number between its first line and the last line feed
+module _ (number : ℕ) where
+  pub refusal-length : 9 + length (decimal number) ≡ length (refusalLines number)
   unfolding refusalLines
-  digit-lines = rw (decimal-small number h)
+  refusal-length = omega (arith, length-append (decimal number) (10 ∷ []))
 
-  pub refusal-length : 10 ≡ length (refusalLines number)
-  refusal-length = rw digit-lines
-
-  pub refusal-parts : (lent : List ℕ) → 10 ≤ length lent
-      → sets (sets lent 0 refusedLine) 8 ((48 + number) ∷ 10 ∷ []) ≡ over (refusalLines number) lent
-  refusal-parts lent room =
-      let all = refusedLine ++ ((48 + number) ∷ 10 ∷ []) in
-      sets-front all lent room ∙ ap (λ (l : List ℕ). over l lent) (sym digit-lines)
+  pub refusal-parts : (lent : List ℕ) → number < 1000 → 12 ≤ length lent
+      → sets (sets (sets lent 0 refusedLine) 8 (decimal number)) (8 + length (decimal number)) (10 ∷ []) ≡ over (refusalLines number) lent
+  unfolding refusalLines
+  refusal-parts lent h room =
+      sym
+      (sets-append lent 0 refusedLine (decimal number ++ (10 ∷ []))
+      ∙ sets-append (sets lent 0 refusedLine) 8 (decimal number) (10 ∷ []))
+      ∙ sets-front (refusalLines number) lent (omega (arith, refusal-length, length-decimal 2 number h))
 
 -- the fields of a character, its value in the middle
 module _ (event : ℕ) (h : event < 256) where

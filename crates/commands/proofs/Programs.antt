@@ -7,44 +7,19 @@ use Prim.Native.Nat.{ℕ, _-_, _<_, _≤_}
 use native.Mathlib.Omega.{arith}
 use borrow.Author.Tests.{ltb-false, ne-eqb}
 use lib.Dec.{ltb}
-use lib.IntN.{ℤ}
 use lib.ListN.{length, getD, take, drop, length-append, length-drop, drop-of-length-le}
 use lib.Seq.{take-all, take-at, drop-cons}
-use Rattle.integers.proofs.Tests.{cond-split, cond-case}
+use Rattle.integers.proofs.Tests.{cond-split}
 use Rattle.text.specs.Numbers.{isDigit}
 use Rattle.tones.specs.Bands.{isBand}
-use Rattle.tones.specs.Samples.{areSamples}
 use Rattle.receiver.specs.Step.{eventsAfter}
 use Rattle.receiver.specs.Calls.{fresh}
 use Rattle.sheet.specs.Text.{sheetOf}
-use Rattle.sheet.specs.Parse.{isSheet, bandIn, samplesOf}
-use Rattle.sheet.specs.Calls.{readNumber, writeNumber}
+use Rattle.sheet.specs.Parse.{bandIn, samplesOf}
+use Rattle.sheet.specs.Calls.{readNumber}
 use Rattle.sheet.proofs.Calls.{Writable, writable}
 use Rattle.commands.specs.Lines.{refusalLines, eventsText}
 use Rattle.commands.specs.Programs.{messageOf, sendNumber, sendingOf, modulated, demodulated, over, Front}
-
--- ---- numbers, all of them below 10
-
-write-small : (band : ℕ) (samples : List ℤ) (room : ℕ) → writeNumber band samples room < 10
-unfolding writeNumber
-write-small band samples room =
-    let P : ℕ → Type 0 = λ k. k < 10 in
-    cond-case P (not (isBand band)) _ _ (omega arith)
-    (cond-case P (ltb 16384 (length samples)) _ _ (omega arith)
-    (cond-case P (not (areSamples samples)) _ _ (omega arith)
-    (cond-case P (ltb 65536 (length (sheetOf band samples))) _ _ (omega arith)
-    (cond-case P (ltb room (length (sheetOf band samples))) _ _ (omega arith) (omega arith)))))
-
-pub read-small : (text : List ℕ) (room : ℕ) → readNumber text room < 10
-unfolding readNumber
-read-small text room =
-    let P : ℕ → Type 0 = λ k. k < 10 in
-    cond-case P (ltb 65536 (length text)) _ _ (omega arith)
-    (cond-case P (not (isSheet text)) _ _ (omega arith)
-    (cond-case P (not (isBand (bandIn text))) _ _ (omega arith)
-    (cond-case P (ltb 16384 (length (samplesOf text))) _ _ (omega arith)
-    (cond-case P (not (areSamples (samplesOf text))) _ _ (omega arith)
-    (cond-case P (ltb room (length (samplesOf text))) _ _ (omega arith) (omega arith))))))
 
 -- ---- a message that is accepted
 
@@ -62,13 +37,6 @@ module _ (band : ℕ) (bytes : List ℕ) where
       (λ known.
       cond-split P (ltb 100 (length bytes)) 3 _ (λ t e. absurd (omega arith))
       (λ few e. record { few = ltb-false 100 (length bytes) few; written = writable band (messageOf band bytes) 65536 e }))
-
-  pub send-small : sendNumber band bytes < 10
-  unfolding sendNumber
-  send-small =
-      let P : ℕ → Type 0 = λ k. k < 10 in
-      cond-case P (not (isBand band)) _ _ (omega arith)
-      (cond-case P (ltb 100 (length bytes)) _ _ (omega arith) (write-small band (messageOf band bytes) 65536))
 
 -- ---- what `modulate` prints
 

@@ -14,6 +14,7 @@ use lib.Seq.{sets}
 use Rattle.integers.proofs.Tests.{cond-split}
 use Rattle.integers.proofs.Lists.{sets-front}
 use Rattle.calls.specs.Outcome.{Outcome, outcome, refused}
+use Rattle.calls.proofs.Answers.{Answered, answered}
 use Rattle.tones.specs.Bands.{isBand, tonesOf}
 use Rattle.transmitter.specs.declared.Transmitter.{Transmitter}
 use Rattle.transmitter.specs.declared.Opened.{Opened}
@@ -150,6 +151,11 @@ module _ (band : ℕ) (bytes : List ℕ) where
         let size : count ≡ length (messageOf band bytes) = ec ∙ sym l in
         let filled = en ∙ sets-front (messageOf band bytes) lent (omega arith) in
         (λ i. record { number = 0; count = size i; state = tt; lent = filled i }) ∙ rw (call-0 b h)
+
+    -- what the answer tells
+    pub message-answer : (o : Outcome Unit ℤ) → o ≡ messageCall band bytes lent → Answered tt (messageOf band bytes) lent n o
+    unfolding messageCall
+    message-answer o e = answered tt (messageOf band bytes) lent n tt o e
 
   -- and how its number goes into that of the program
   abbrev Leads : ℕ → Type 0

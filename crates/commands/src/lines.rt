@@ -8,15 +8,14 @@ ghost use Rattle.commands.specs.Programs.{over};
 
 // A refusal's lines over the buffer's front, and their length.
 pub(crate) fn put_refusal(out: &mut [u8], number: u8) -> usize
-    requires { ⌜ number < 10 ⌝ }
-    requires { ⌜ 10 ≤ length (now out) ⌝ }
+    requires { ⌜ 12 ≤ length (now out) ⌝ }
     ensures count { λ r. ⌜ r ≡ length (refusalLines number) ⌝ }
     ensures lent { λ r. ⌜ now (out .exit) ≡ over (refusalLines number) (now (out .entry)) ⌝ }
 {
-    let digit = [48 + number, 10];
     text::put(out, 0, b"refused\n");
-    text::put(out, 8, &digit);
-    10
+    let len = text::put_decimal(out, 8, number as u16);
+    text::put(out, 8 + len, b"\n");
+    9 + len
 }
 
 // The names line and a line for each event over the buffer's front, and their length.

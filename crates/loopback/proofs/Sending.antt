@@ -1,24 +1,22 @@
 -- What is asked of a part, and that three parts, disturbed and put one behind the other, are the recording.
 -- Assumes nothing.
 use mathlib.Core.Path.{_≡_, sym, ap, _∙_}
-use mathlib.Core.List.{List, _++_, append-nil}
+use mathlib.Core.List.{List, _++_}
 use Prim.Native.Nat.{ℕ, _+_, _*_, _≤_}
-use native.Mathlib.Nat.{zero-add, le-trans}
+use native.Mathlib.Nat.{le-trans}
 use native.Mathlib.Omega.{arith}
 use lib.IntN.{ℤ}
-use lib.ListN.{length, take, drop, drop-of-length-le}
-use lib.Seq.{sets, take-at, drop-drop}
+use lib.ListN.{length, drop}
+use lib.Seq.{sets, drop-drop}
 use Rattle.integers.specs.Near.{altered}
 use Rattle.integers.specs.Sums.{Bounded}
 use Rattle.integers.proofs.Near.{length-altered, altered-append}
 use Rattle.integers.proofs.Lists.{sets-three}
-use Rattle.calls.specs.Outcome.{Outcome, outcome}
 use Rattle.tones.specs.declared.Tones.{Tones}
 use Rattle.tones.specs.Bands.{tonesOf}
 use Rattle.transmitter.specs.declared.Transmitter.{Transmitter}
-use Rattle.transmitter.specs.declared.Sent.{Sent}
 use Rattle.transmitter.specs.Samples.{sendBits, bitSteps, idleBits, charactersBits, messageBits}
-use Rattle.transmitter.specs.Calls.{fresh, samplesOf, afterBits, sent}
+use Rattle.transmitter.specs.Calls.{fresh, samplesOf, afterBits}
 use Rattle.transmitter.proofs.Laws.{length-bits, length-characters, length-message, send-bound, message-parts}
 use Rattle.loopback.specs.Loopback.{samplesFor, recordedOf, Disturbs}
 

@@ -10,7 +10,8 @@ use lib.Dec.{ltb, eqb}
 use lib.IntN.{ℤ}
 use lib.ListN.{length, drop}
 use Rattle.integers.proofs.Tests.{cond-split}
-use Rattle.calls.specs.Outcome.{outcome, refused, accepted}
+use Rattle.calls.specs.Outcome.{Outcome, outcome, refused, accepted}
+use Rattle.calls.proofs.Answers.{Answered, answered}
 use Rattle.tones.specs.Bands.{isBand}
 use Rattle.tones.specs.Samples.{areSamples}
 use Rattle.sheet.specs.declared.Reading.{Reading}
@@ -100,6 +101,11 @@ module _ (text : List ℕ) (lent : List ℤ) where
   unfolding readOf readingOf
   read-accepted e = rw e
 
+  -- what the answer tells
+  pub read-answer : (o : Outcome ℕ ℤ) → o ≡ readOf text lent → Answered (bandIn text) (samplesOf text) lent (readNumber text (length lent)) o
+  unfolding readOf
+  read-answer o e = answered (bandIn text) (samplesOf text) lent (readNumber text (length lent)) 0 o e
+
 -- ---- writing
 
 module _ (band : ℕ) (samples : List ℤ) (room : ℕ) where
@@ -176,3 +182,7 @@ module _ (band : ℕ) (samples : List ℤ) (lent : List ℕ) where
   pub write-accepted : writeNumber band samples (length lent) ≡ 0 → accepted tt (sheetOf band samples) lent ≡ writeOf band samples lent
   unfolding writeOf
   write-accepted e = rw e
+
+  pub write-answer : (o : Outcome Unit ℕ) → o ≡ writeOf band samples lent → Answered tt (sheetOf band samples) lent (writeNumber band samples (length lent)) o
+  unfolding writeOf
+  write-answer o e = answered tt (sheetOf band samples) lent (writeNumber band samples (length lent)) tt o e

@@ -13,11 +13,10 @@ use Rattle.receiver.specs.Step.{eventsAfter}
 use Rattle.receiver.specs.Calls.{fresh}
 use Rattle.sheet.specs.Parse.{bandIn, samplesOf}
 use Rattle.sheet.specs.Calls.{readNumber}
-use Rattle.sheet.proofs.Calls.{Readable, readable}
+use Rattle.sheet.proofs.Calls.{Readable, readable, read-answer}
 use Rattle.commands.specs.Lines.{eventsText}
 use Rattle.commands.specs.Programs.{demodulated}
-use Rattle.commands.proofs.Answers.{read-answer}
-use Rattle.commands.proofs.Programs.{read-small, reading-refused, reading-accepted, printed}
+use Rattle.commands.proofs.Programs.{reading-refused, reading-accepted, printed}
 use Rattle.commands.proofs.demodulate.Statement.{statement}
 use Rattle.commands.proofs.demodulate.Tie as tie
 
@@ -68,7 +67,7 @@ put-refusal-requires : tie.Need-put-refusal-requires
 put-refusal-requires c κs =
     let r = c .before .before .before .before .before in
     let l : length (start r .args .out .now) ≡ 4806 = search needs in
-    (rw (answer r .told) (read-small (text r) 16384), omega (arith, l))
+    omega (arith, l)
 
 returns : tie.Need-returns
 returns c =

@@ -1,16 +1,29 @@
 -- `commands::lines::put_refusal` meets its contract.
 -- Assumes nothing.
-use mathlib.Core.Path.{ap, _∙_}
-use mathlib.Core.List.{List, [], _∷_}
-use Prim.Native.Nat.{ℕ, _+_}
-use borrow.Author.Needs.{needs}
-use lib.Seq.{sets}
+use Prim.Native.Nat.{ℕ, _+_, _<_, _≤_}
 use Rattle.commands.proofs.Printing.{refusal-length, refusal-parts}
+use Rattle.text.proofs.Numbers.{length-decimal}
+use Rattle.text.specs.Numbers.{decimal}
+use lib.Seq.{sets}
+use mathlib.Core.List.{List, [], _∷_}
+use mathlib.Core.Path.{ap, ap₂, _∙_}
+use native.Mathlib.Omega.{arith}
+use borrow.Author.Needs.{needs}
 use Rattle.commands.proofs.lines.put_refusal.Statement.{statement}
 use Rattle.commands.proofs.lines.put_refusal.Tie as tie
 
-add-t5 : tie.Need-add-t5
-add-t5 c = search needs
+module _ (c : tie.After-put-decimal) where
+  abbrev start : tie.Start
+  start = c .before .before .before .before .before .before .before .before
+
+  abbrev number : ℕ
+  number = start .args .number
+
+  small : number < 1000
+  small = omega (arith, start .fits .number)
+
+  short : c .put-decimal .result ≤ 3
+  short = omega (arith, c .put-decimal .ensures .0, length-decimal 2 number small)
 
 slice-aggregate-put : tie.Need-slice-aggregate-put
 slice-aggregate-put c = search needs
@@ -18,34 +31,45 @@ slice-aggregate-put c = search needs
 put-requires : tie.Need-put-requires
 put-requires c κs = tt
 
+put-decimal-requires : tie.Need-put-decimal-requires
+put-decimal-requires c κs = tt
+
+add-put : tie.Need-add-put
+add-put c = omega (arith, short (c .before .before .before))
+
 slice-aggregate-put-2 : tie.Need-slice-aggregate-put-2
 slice-aggregate-put-2 c = search needs
 
 put-requires-2 : tie.Need-put-requires-2
 put-requires-2 c κs = tt
 
+add-result : tie.Need-add-result
+add-result c = omega (arith, short (c .before .before .before .before .before .before .before))
+
 same-length : tie.Need-same-length
 same-length c = search needs
 
 returns : tie.Need-returns
 returns c =
-    let first = c .before .before .before .before .before .before .before in
-    let start = first .before .before .before .before in
-    let number = start .args .number in (
-      refusal-length number (start .pre .0),
+    let d = c .before .before .before .before .before .before .before in
+    let lent = start d .args .out .now in
+    let two = d .put-decimal .ensures .1 ∙ ap (λ (l : List ℕ). sets l 8 (decimal (number d))) (d .before .before .before .before .put .ensures) in (
+      omega (arith, d .put-decimal .ensures .0, refusal-length (number d)),
       c .before .before .put2 .ensures
-          ∙ ap (λ (l : List ℕ). sets l 8 ((48 + number) ∷ 10 ∷ [])) (first .put .ensures)
-          ∙ refusal-parts number (start .pre .0) (start .args .out .now) (start .pre .1),
+          ∙ ap₂ (λ (l : List ℕ) (n : ℕ). sets l (8 + n) (10 ∷ [])) two (d .put-decimal .ensures .0)
+          ∙ refusal-parts (number d) lent (small d) (start d .pre),
     )
 
 pub put-refusal-spec : {M : Type 1} → statement M
 put-refusal-spec =
     tie.close
     (tie.spec
-    add-t5
     slice-aggregate-put
     put-requires
+    put-decimal-requires
+    add-put
     slice-aggregate-put-2
     put-requires-2
+    add-result
     same-length
     returns)

@@ -10,10 +10,10 @@ use lib.ListN.{length, replicate}
 use Rattle.calls.specs.Outcome.{Outcome, outcome, accepted}
 use Rattle.calls.proofs.Answers.{Answered, given-front, given-part, given-room}
 use Rattle.sheet.specs.Text.{sheetOf}
+use Rattle.sheet.proofs.Calls.{write-answer}
 use Rattle.commands.specs.Programs.{messageOf, messageNumber, sendNumber, over}
-use Rattle.commands.proofs.Answers.{message-answer, write-answer}
-use Rattle.commands.proofs.Sending.{number-refused, number-sheet}
-use Rattle.commands.proofs.Programs.{send-small, sending-refused, sending-accepted}
+use Rattle.commands.proofs.Sending.{message-answer, number-refused, number-sheet}
+use Rattle.commands.proofs.Programs.{sending-refused, sending-accepted}
 use Rattle.commands.proofs.message.put_sheet.Statement.{statement}
 use Rattle.commands.proofs.message.put_sheet.Tie as tie
 
@@ -92,7 +92,7 @@ put-refusal-requires : tie.Need-put-refusal-requires
 put-refusal-requires c κs =
     let t = c .before in
     let s = t .before .before .before in
-    (rw (refused t) (send-small (band s) (bytes s)), omega (arith, start s .pre))
+    omega (arith, start s .pre)
 
 same-length : tie.Need-same-length
 same-length c = search needs
@@ -120,7 +120,7 @@ put-refusal-requires-2 : tie.Need-put-refusal-requires-2
 put-refusal-requires-2 c κs =
     let w = c .before .before .before .before .before in
     let s = call w in
-    (rw (written-answer w .told) (send-small (band s) (bytes s)), rw (kept (c .before)) (omega (arith, start s .pre)))
+    rw (kept (c .before)) (omega (arith, start s .pre))
 
 same-length-2 : tie.Need-same-length-2
 same-length-2 c = search needs
