@@ -9,6 +9,7 @@ ghost use Rattle.receiver.specs.Step.{eventsAfter};
 ghost use Rattle.receiver.specs.Calls.{fresh};
 ghost use Rattle.commands.specs.Lines.{eventsText};
 ghost use Rattle.commands.specs.Programs.{over};
+use crate::lines::put_events;
 use receiver::Receiver;
 
 // The lines of the samples' events over the buffer's front, and their length.
@@ -27,5 +28,5 @@ pub(crate) fn put_events_of(band: u8, samples: &[i16], out: &mut [u8]) -> usize
     let reading = fresh.block(samples, &mut events);
     let answer = reading.answer;
     let n = answer.count;
-    crate::lines::put_events(out, &events[..n])
+    put_events(out, &events[..n])
 }

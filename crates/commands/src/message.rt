@@ -6,6 +6,7 @@ ghost use lib.ListN.{length};
 ghost use lib.Seq.{sets};
 ghost use Rattle.calls.specs.Outcome.{outcome};
 ghost use Rattle.commands.specs.Programs.{messageCall, sendingOf, over};
+use crate::lines::put_refusal;
 use calls::Answer;
 use transmitter::Transmitter;
 
@@ -18,12 +19,12 @@ pub(crate) fn put_sheet(band: u8, bytes: &[u8], out: &mut [u8]) -> usize
     let mut samples = [0i16; 32192];
     let sent = send(band, bytes, &mut samples);
     if sent.number != 0 {
-        return crate::lines::put_refusal(out, sent.number);
+        return put_refusal(out, sent.number);
     }
     let n = sent.count;
     let answer = sheet::write(band, &samples[..n], out);
     if answer.number != 0 {
-        return crate::lines::put_refusal(out, answer.number);
+        return put_refusal(out, answer.number);
     }
     answer.count
 }
