@@ -14,7 +14,7 @@ refusedLine = 114 ∷ 101 ∷ 102 ∷ 117 ∷ 115 ∷ 101 ∷ 100 ∷ 10 ∷ []
 unfoldable pub refusalLines : ℕ → List ℕ
 refusalLines number = refusedLine ++ (decimal number ++ (10 ∷ []))
 
--- `char` for 0 to 255, `nostop` for 256, and `lost`
+-- `char` for 0 to 255, `nostop` for 256, and `lost` for 257, above which there is no event
 abbrev pub kindOf : ℕ → List ℕ
 kindOf event =
     cond (ltb event 256) (99 ∷ 104 ∷ 97 ∷ 114 ∷ [])
