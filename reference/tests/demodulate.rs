@@ -201,7 +201,8 @@ fn sheets_that_end_early() {
         let samples = sending(band, &[0x5a]);
         let events = |count: usize| check(band, &samples[..count]).lines().count() - 1;
         let counts: Vec<usize> = (350..=450).map(events).collect();
-        assert!(counts.iter().is_sorted(), "band {band}: {counts:?}");
+        let sorted = counts.windows(2).all(|two| two[0] <= two[1]);
+        assert!(sorted, "band {band}: {counts:?}");
         assert_eq!((counts[0], counts[100]), (0, 1), "band {band}");
     }
 }

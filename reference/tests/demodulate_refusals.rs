@@ -61,12 +61,12 @@ fn check_changes(places: impl Iterator<Item = usize>) {
 }
 
 #[test]
-fn every_second_byte_changed_to_every_byte() {
+fn even_places_changed_to_every_byte() {
     check_changes((0..short().len()).step_by(2));
 }
 
 #[test]
-fn every_other_byte_changed_to_every_byte() {
+fn odd_places_changed_to_every_byte() {
     check_changes((1..short().len()).step_by(2));
 }
 

@@ -5,8 +5,8 @@ use mathlib.Core.Bool.{true, false, not}
 use mathlib.Core.List.{List, _∷_}
 use Prim.Native.Nat.{ℕ, _-_, _<_, _≤_}
 use native.Mathlib.Omega.{arith}
-use borrow.Author.Tests.{ltb-false, ne-eqb}
-use lib.Dec.{ltb}
+use borrow.Author.Tests.{eqb-true, eqb-false, ltb-false, ne-eqb}
+use lib.Dec.{ltb, eqb}
 use lib.ListN.{length, getD, take, drop, length-append, length-drop, drop-of-length-le}
 use lib.Seq.{take-all, take-at, drop-cons}
 use Rattle.integers.proofs.Tests.{cond-split}
@@ -16,10 +16,10 @@ use Rattle.receiver.specs.Step.{eventsAfter}
 use Rattle.receiver.specs.Calls.{fresh}
 use Rattle.sheet.specs.Text.{sheetOf}
 use Rattle.sheet.specs.Parse.{bandIn, samplesOf}
-use Rattle.sheet.specs.Calls.{readNumber}
+use Rattle.sheet.specs.Calls.{readNumber, writeNumber}
 use Rattle.sheet.proofs.Calls.{Writable, writable}
 use Rattle.commands.specs.Lines.{refusalLines, eventsText}
-use Rattle.commands.specs.Programs.{messageOf, sendNumber, sendingOf, modulated, demodulated, over, Front}
+use Rattle.commands.specs.Programs.{messageOf, messageNumber, sendNumber, sendingOf, modulated, demodulated, over, Front}
 
 -- ---- a message that is accepted
 
@@ -29,14 +29,20 @@ module _ (band : ℕ) (bytes : List ℕ) where
     pub few : length bytes ≤ 100
     pub written : Writable band (messageOf band bytes) 65536
 
+  few-bytes : messageNumber band bytes ≡ 0 → length bytes ≤ 100
+  unfolding messageNumber
+  few-bytes =
+      let P : ℕ → Type 0 = λ k. k ≡ 0 → length bytes ≤ 100 in
+      cond-split P (not (isBand band)) 1 _ (λ t e. absurd (omega arith))
+      (λ known. cond-split P (ltb 100 (length bytes)) 3 0 (λ t e. absurd (omega arith)) (λ few e. ltb-false 100 (length bytes) few))
+
   pub sendable : sendNumber band bytes ≡ 0 → Sendable
   unfolding sendNumber
   sendable =
-      let P : ℕ → Type 0 = λ k. k ≡ 0 → Sendable in
-      cond-split P (not (isBand band)) 1 _ (λ t e. absurd (omega arith))
-      (λ known.
-      cond-split P (ltb 100 (length bytes)) 3 _ (λ t e. absurd (omega arith))
-      (λ few e. record { few = ltb-false 100 (length bytes) few; written = writable band (messageOf band bytes) 65536 e }))
+      let n : ℕ = messageNumber band bytes in
+      cond-split (λ (k : ℕ). k ≡ 0 → Sendable) (eqb n 0) (writeNumber band (messageOf band bytes) 65536) n
+      (λ z e. record { few = few-bytes (eqb-true n 0 z); written = writable band (messageOf band bytes) 65536 e })
+      (λ z e. absurd (eqb-false n 0 z e))
 
 -- ---- what `modulate` prints
 

@@ -1,13 +1,12 @@
 -- The calls of a message: what each leaves when it is accepted, the numbers that refuse, and three parts that make the samples.
 -- Assumes nothing.
 use mathlib.Core.Path.{_≡_, refl, sym, ap, ap₂, _∙_}
-use mathlib.Core.Bool.{true, false, not}
+use mathlib.Core.Bool.{true, false}
 use mathlib.Core.List.{List, _++_}
 use Prim.Native.Nat.{ℕ, _+_, _*_, _<_, _≤_}
 use native.Mathlib.Decide.{decLe}
 use native.Mathlib.Omega.{arith}
 use borrow.Author.Tests.{lt-ltb, le-ltb, ne-eqb}
-use lib.Dec.{ltb}
 use lib.IntN.{ℤ}
 use lib.ListN.{length}
 use lib.Seq.{sets}
@@ -158,19 +157,10 @@ module _ (band : ℕ) (bytes : List ℕ) where
     message-answer o e = answered tt (messageOf band bytes) lent n tt o e
 
   -- and how its number goes into that of the program
-  abbrev Leads : ℕ → Type 0
-  Leads k = ((k ≡ 0 → ⊥) → k ≡ sendNumber band bytes) × (k ≡ 0 → writeNumber band (messageOf band bytes) 65536 ≡ sendNumber band bytes)
-
-  leads : Leads n
-  unfolding messageNumber sendNumber
-  leads =
-      cond-split Leads (not (isBand band)) 1 _ (λ b. (λ h. rw b, λ z. absurd (omega arith)))
-      (λ b.
-      cond-split Leads (ltb 100 (length bytes)) 3 0 (λ l. (λ h. rw (b, l), λ z. absurd (omega arith)))
-      (λ l. (λ h. absurd (h refl), λ z. rw (b, l))))
-
   pub number-refused : (n ≡ 0 → ⊥) → n ≡ sendNumber band bytes
-  number-refused = leads .0
+  unfolding sendNumber
+  number-refused h = rw (ne-eqb n 0 h)
 
   pub number-sheet : n ≡ 0 → writeNumber band (messageOf band bytes) 65536 ≡ sendNumber band bytes
-  number-sheet = leads .1
+  unfolding sendNumber
+  number-sheet e = rw e

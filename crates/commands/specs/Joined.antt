@@ -7,7 +7,8 @@ use Rattle.promise.specs.Recordings.{AreBytes}
 use Rattle.commands.specs.Lines.{eventsText}
 use Rattle.commands.specs.Programs.{sendNumber, modulated, demodulated}
 
--- for every message that is not refused, the event lines are those of exactly that message
+-- For every band and every message of bytes that `modulate` does not refuse: of what it prints for the band's digit (48 is `0`) and the
+-- message, `demodulate` prints the event lines of exactly that message.
 abbrev pub ReadBack : Type 0
 ReadBack =
     (band : ℕ) (message : List ℕ) → AreBytes message → sendNumber band message ≡ 0

@@ -10,7 +10,7 @@ use Rattle.text.specs.Numbers.{decimal, hexadecimal}
 abbrev pub refusedLine : List ℕ
 refusedLine = 114 ∷ 101 ∷ 102 ∷ 117 ∷ 115 ∷ 101 ∷ 100 ∷ 10 ∷ []
 
--- and a line with the number
+-- a refusal: that line, and a line with the number
 unfoldable pub refusalLines : ℕ → List ℕ
 refusalLines number = refusedLine ++ (decimal number ++ (10 ∷ []))
 
@@ -24,7 +24,7 @@ kindOf event =
 abbrev pub valueOf : ℕ → List ℕ
 valueOf event = cond (ltb event 256) (hexadecimal event) (45 ∷ 45 ∷ [])
 
--- kind and value, with one space, 32, before each
+-- kind and value, with one space, 32, before each, and the line feed
 abbrev pub fieldsOf : ℕ → List ℕ
 fieldsOf event = (32 ∷ kindOf event) ++ (32 ∷ valueOf event) ++ (10 ∷ [])
 

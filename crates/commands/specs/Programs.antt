@@ -24,12 +24,15 @@ use Rattle.commands.specs.Lines.{refusalLines, eventsText}
 abbrev pub messageOf : ℕ → List ℕ → List ℤ
 messageOf band bytes = sendBits (tonesOf band) 0 (messageBits bytes)
 
--- the first refusal of the opening, of the characters call, and of a sheet for which there is always room
+-- the first refusal of the opening and of the characters call; leader and trailer are never refused
+unfoldable pub messageNumber : ℕ → List ℕ → ℕ
+messageNumber band bytes = cond (not (isBand band)) 1 (cond (ltb 100 (length bytes)) 3 0)
+
+-- or that of a sheet for which there is always room
 unfoldable pub sendNumber : ℕ → List ℕ → ℕ
 sendNumber band bytes =
-    cond (not (isBand band)) 1
-    (cond (ltb 100 (length bytes)) 3
-    (writeNumber band (messageOf band bytes) 65536))
+    let n : ℕ = messageNumber band bytes in
+    cond (eqb n 0) (writeNumber band (messageOf band bytes) 65536) n
 
 -- the sheet, or the refusal
 unfoldable pub sendingOf : ℕ → List ℕ → List ℕ
@@ -37,7 +40,7 @@ sendingOf band bytes =
     let n : ℕ = sendNumber band bytes in
     cond (eqb n 0) (sheetOf band (messageOf band bytes)) (refusalLines n)
 
--- a band digit, and every byte behind it as a character; no digit, no band
+-- a band digit, and every byte behind it as a character; empty input, or a first byte that is no digit, is refused with 1
 unfoldable pub modulated : List ℕ → List ℕ
 modulated [] = refusalLines 1
 modulated (first ∷ bytes) = cond (isDigit first) (sendingOf (first - 48) bytes) (refusalLines 1)
@@ -52,10 +55,6 @@ demodulated text =
 
 -- ---- leader, characters and trailer as one call; there is no state
 
--- 1, 3, or none
-unfoldable pub messageNumber : ℕ → List ℕ → ℕ
-messageNumber band bytes = cond (not (isBand band)) 1 (cond (ltb 100 (length bytes)) 3 0)
-
 unfoldable pub messageCall : ℕ → List ℕ → List ℤ → Outcome Unit ℤ
 messageCall band bytes lent =
     let n : ℕ = messageNumber band bytes in
@@ -67,6 +66,7 @@ messageCall band bytes lent =
 abbrev pub over : List ℕ → List ℕ → List ℕ
 over text lent = text ++ drop (length text) lent
 
--- `count` places are at the buffer's front; it follows from the text's length, and spares a caller that lends them a proof
+-- the first `count` places are within the buffer, and are `count` many; it follows from the two equations, and with it a caller can lend
+-- those places without a proof of its own
 abbrev pub Front : ℕ → List ℕ → Type 0
 Front count lent = (count ≤ length lent) × (count ≡ length (take count lent))

@@ -24,7 +24,7 @@ pub fn modulate(input: &[u8], out: &mut [u8; 65536]) -> usize
     message::put_sheet(first - 48, &input[1..], out)
 }
 
-// A sheet to the lines of its events. 342 events are the most that a sheet can have, and 14 bytes the longest line.
+// A sheet to the lines of its events. A sheet has at most 342 events, each in a line of at most 14 bytes.
 pub fn demodulate(text: &[u8], out: &mut [u8; 4806]) -> usize
     ensures count { λ r. ⌜ r ≡ length (demodulated (now (text .entry))) ⌝ }
     ensures lent { λ r. ⌜ now (out .exit) ≡ over (demodulated (now (text .entry))) (now (out .entry)) ⌝ }

@@ -36,7 +36,7 @@ readOf text lent =
     let n : ℕ = readNumber text (length lent) in
     cond (eqb n 0) (accepted (bandIn text) (samplesOf text) lent) (refused n 0 lent)
 
--- what is answered beside the samples
+-- the same without the buffer, for the code that judges before it writes
 unfoldable pub readingOf : List ℕ → ℕ → Reading
 readingOf text room =
     let n : ℕ = readNumber text room in

@@ -26,7 +26,7 @@ next (Number negative size) byte =
     cond (eqb byte 10) Start (cond (isDigit byte && ltb size 1000) (Number negative (size * 10 + (byte - 48))) Bad)
 next Bad byte = Bad
 
--- the sample of a line that ends here
+-- the sample of a line that ends here; 0 where none can end, since such a text is refused
 unfoldable pub sampleOf : Line → ℤ
 sampleOf Start = pos 0
 sampleOf Minus = pos 0
@@ -54,7 +54,7 @@ isStart Zero = false
 isStart (Number negative size) = false
 isStart Bad = false
 
--- ---- a whole text
+-- ---- a whole text: the line `band` is bytes 0 to 4, the digit byte 5, and the samples begin at byte 14
 
 -- the three lines above the samples, with any digit
 unfoldable pub isHeaded : List ℕ → Bool

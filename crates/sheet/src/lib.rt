@@ -43,6 +43,7 @@ pub fn read(text: &[u8], out: &mut [i16]) -> Reading
     if answer.number != 0 {
         return judged;
     }
+    // Behind the 14 bytes of the first three lines.
     reader::fill(&text[14..], out);
     judged
 }

@@ -18,6 +18,7 @@ pub(crate) fn advance(line: Line, byte: u8) -> Line
     }
 }
 
+// A minus, a 0 that stands alone, or the first digit of a number.
 fn first(byte: u8) -> Line
     ensures { λ r. ⌜ r ≡ next Start byte ⌝ }
 {
@@ -57,7 +58,7 @@ fn after_zero(byte: u8) -> Line
     if byte == 10 { Line::Start } else { Line::Bad }
 }
 
-// Behind 1,000 and more there is no room for a digit.
+// A number of 1,000 or more has four digits and takes no further one.
 fn in_number(negative: bool, size: u16, byte: u8) -> Line
     ensures { λ r. ⌜ r ≡ next (Number negative size) byte ⌝ }
 {
@@ -76,7 +77,7 @@ fn in_number(negative: bool, size: u16, byte: u8) -> Line
     Line::Bad
 }
 
-// The sample of a line that ends here.
+// The sample of a line that ends here, and 0 where none can end.
 pub(crate) fn sample_of(line: Line) -> i16
     requires { ⌜ Small line ⌝ }
     ensures { λ r. ⌜ r ≡ sampleOf line ⌝ }

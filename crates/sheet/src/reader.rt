@@ -22,10 +22,11 @@ pub(crate) fn judge(text: &[u8], room: usize) -> Reading
     if !is_headed(text) {
         return refused(7);
     }
+    // Behind the 14 bytes of the first three lines.
     let seen = look(&text[14..]);
     let line = seen.line;
     if !parse::is_start(line) {
-        return refused(7); // before the band is looked at
+        return refused(7);
     }
     let band = text[5] - 48;
     let count = seen.count;
@@ -84,6 +85,7 @@ fn is_headed(text: &[u8]) -> bool
     text::is_digit(text[5])
 }
 
+// The first pass over the lines: what a refusal depends on.
 fn look(lines: &[u8]) -> Seen
     requires { ⌜ length (now lines) ≤ 65536 ⌝ }
     ensures { λ r. ⌜ r ≡ seenOf (now (lines .entry)) ⌝ }

@@ -4,11 +4,9 @@ use libc::STDOUT_FILENO;
 pub(crate) fn modulate() {
     show_modulated(b"");
     show_modulated(b"A");
-    show_modulated(b"0A");
     show_modulated(b"3A");
     show_modulated(b"1");
     show_modulated(&[49u8; 39]);
-    show_modulated(&[50u8; 51]);
     show_modulated(&[50u8; 52]);
     show_modulated(&[49u8; 102]);
 }
@@ -16,10 +14,8 @@ pub(crate) fn modulate() {
 pub(crate) fn demodulate() {
     show_demodulated(b"");
     show_demodulated(b"band\n2\nsample\n");
-    show_demodulated(b"band\n4\nsample\n0\n");
     show_demodulated(b"band\n1\nsample\n8192\n");
     show_demodulated(b"band\n1\nsample\n+1\n");
-    show_read_back(b"1");
     show_read_back(b"1A");
     show_read_back(b"2\0\n\xff");
     show_read_back(&[49u8; 38]);

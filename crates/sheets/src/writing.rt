@@ -12,16 +12,12 @@ pub(crate) fn lines() {
 
 // Which number comes first.
 pub(crate) fn order() {
-    write(b"band 0", 0, &[1i16; 1]);
     write(b"band 3", 3, &[1i16; 1]);
-    write(b"band 10", 10, &[1i16; 1]);
     write(b"8192", 1, &[8192i16; 1]);
-    write(b"-8192", 1, &[-8192i16; 1]);
     write(b"-32768", 2, &[-32768i16; 1]);
     write(b"band 3 and 8192", 3, &[8192i16; 1]);
     write(b"16384 samples 1000", 1, &[1000i16; 16384]);
     write(b"16385 samples 8192", 1, &[8192i16; 16385]);
-    write(b"16384 samples 8192", 1, &[8192i16; 16384]);
 }
 
 // A sheet of 32 bytes, and one of 33.

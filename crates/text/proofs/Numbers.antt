@@ -65,13 +65,6 @@ length-small n h = ap length (decimal-small n h)
 length-more : (n : ℕ) → 10 ≤ n → length (decimal n) ≡ length (decimal (n / 10)) + 1
 length-more n h = ap length (decimal-more n h) ∙ length-append (decimal (n / 10)) ((48 + n % 10) ∷ [])
 
-pub length-some : (n : ℕ) → 1 ≤ length (decimal n)
-length-some n = go (decLe 10 n)
-  where
-    go : Dec (10 ≤ n) → 1 ≤ length (decimal n)
-    go (yes h) = omega (arith, length-more n h)
-    go (no h) = omega (arith, length-small n (omega arith))
-
 -- a number below 10, 100, 1000 .. has at most 1, 2, 3 .. digits
 pub length-decimal : (k n : ℕ) → n < 10 ^ suc k → length (decimal n) ≤ suc k
 length-decimal zero n h = omega (arith, length-small n h)

@@ -11,11 +11,12 @@ use Rattle.text.specs.declared.Digits.{Digits}
 abbrev pub isDigit : ℕ → Bool
 isDigit byte = leb 48 byte && leb byte 57
 
--- in decimal, with no zero in front; the first number is above the count of digits
+-- in decimal, with no zero in front; the first argument bounds the count of digits, and every one above n gives the same
 unfoldable pub decimalIn : ℕ → ℕ → List ℕ
 decimalIn zero n = []
 decimalIn (suc k) n = cond (ltb n 10) ((48 + n) ∷ []) (decimalIn k (n / 10) ++ ((48 + n % 10) ∷ []))
 
+-- n itself is such a bound, with one to spare
 unfoldable pub decimal : ℕ → List ℕ
 decimal n = decimalIn (suc n) n
 

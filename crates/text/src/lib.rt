@@ -80,7 +80,7 @@ pub fn put(out: &mut [u8], at: usize, bytes: &[u8])
     }
 }
 
-// Puts the decimal digits of a number to a buffer from the place `at` on, and gives their count.
+// Puts the decimal digits of a number into a buffer from the place `at` on, and gives their count, with those for which there is no place.
 pub fn put_decimal(out: &mut [u8], at: usize, n: u16) -> usize
     ensures count { λ r. ⌜ r ≡ length (decimal n) ⌝ }
     ensures lent { λ r. ⌜ now (out .exit) ≡ sets (now (out .entry)) at (decimal n) ⌝ }

@@ -138,7 +138,7 @@ impl Lengths {
             for (byte, &lines) in (0..=255).zip(&self.0[&text.phase].characters) {
                 let bytes = text.bytes + lines.bytes;
                 let known = best.get(&lines.end);
-                if known.is_none_or(|known| better(bytes, known.bytes)) {
+                if known.map_or(true, |known| better(bytes, known.bytes)) {
                     best.insert(lines.end, text.with(&[byte], lines));
                 }
             }
