@@ -8,15 +8,15 @@ use Prim.Native.Nat.{ℕ, _+_, _-_, zero-le}
 use native.Mathlib.Omega.{arith}
 use lib.IntN.{ℤ}
 use Rattle.integers.proofs.Near.{altered-none}
+use Rattle.tones.proofs.Laws.{band-digit}
 use Rattle.text.specs.Numbers.{isDigit}
 use Rattle.text.proofs.Numbers.{is-digit}
-use Rattle.tones.proofs.Laws.{band-digit}
 use Rattle.receiver.specs.Step.{eventsAfter}
 use Rattle.receiver.specs.Calls.{fresh}
-use Rattle.promise.specs.Recordings.{AreBytes}
-use Rattle.promise.proofs.Message.{message-read}
 use Rattle.sheet.specs.Text.{sheetOf}
 use Rattle.sheet.proofs.RoundTrip.{written-read, read-written}
+use Rattle.promise.specs.Recordings.{AreBytes}
+use Rattle.promise.proofs.Message.{message-read}
 use Rattle.commands.specs.Lines.{eventsText}
 use Rattle.commands.specs.Programs.{messageOf, sendNumber, modulated, demodulated}
 use Rattle.commands.specs.Joined.{ReadBack}

@@ -10,8 +10,8 @@ use lib.Dec.{ltb, eqb}
 use lib.ListN.{length, getD, take, drop, length-append, length-drop, drop-of-length-le}
 use lib.Seq.{take-all, take-at, drop-cons}
 use Rattle.integers.proofs.Tests.{cond-split}
-use Rattle.text.specs.Numbers.{isDigit}
 use Rattle.tones.specs.Bands.{isBand}
+use Rattle.text.specs.Numbers.{isDigit}
 use Rattle.receiver.specs.Step.{eventsAfter}
 use Rattle.receiver.specs.Calls.{fresh}
 use Rattle.sheet.specs.Text.{sheetOf}

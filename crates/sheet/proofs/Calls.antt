@@ -14,10 +14,10 @@ use Rattle.calls.specs.Outcome.{Outcome, outcome, refused, accepted}
 use Rattle.calls.proofs.Answers.{Answered, answered}
 use Rattle.tones.specs.Bands.{isBand}
 use Rattle.tones.specs.Samples.{areSamples}
-use Rattle.sheet.specs.declared.Reading.{Reading}
 use Rattle.sheet.specs.Text.{sheetOf}
 use Rattle.sheet.specs.Parse.{isSheet, bandIn, samplesOf}
 use Rattle.sheet.specs.Calls.{samplesNumber, readNumber, readOf, readingOf, writeNumber, writeOf}
+use Rattle.sheet.specs.declared.Reading.{Reading}
 
 -- a number that is not 0 where none was to be
 no : {A : Type 0} (n : ℕ) → 0 < n → n ≡ 0 → A

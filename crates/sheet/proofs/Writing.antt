@@ -12,9 +12,9 @@ use lib.IntN.{ℤ, pos, negsuc, natAbs}
 use lib.ListN.{length, getD, drop, length-append, drop-of-length-le}
 use lib.Seq.{sets, drop-cons}
 use lib.Signed.{ltZ}
+use mir.Facts.{toZ-ofZ}
 use mir.Syntax.{w16}
 use mir.Val.{SFits, toZ, ofZ}
-use mir.Facts.{toZ-ofZ}
 use Rattle.integers.proofs.Lists.{sets-append, sets-front}
 use Rattle.calls.proofs.Filling.{Filling, filling-more, filling-end}
 use Rattle.text.specs.Numbers.{decimal}

@@ -1,19 +1,19 @@
 -- `sheet::read` meets its contract.
 -- Assumes nothing.
+use mathlib.Core.Path.{_≡_, sym, ap, _∙_}
+use mathlib.Core.List.{List}
 use Prim.Native.Nat.{ℕ}
+use borrow.Author.Needs.{needs}
+use lib.IntN.{ℤ}
+use lib.ListN.{length}
+use lib.Seq.{sets}
 use Rattle.integers.proofs.Lists.{sets-front}
-use Rattle.sheet.proofs.Calls.{Readable, readable, reading-number, read-refused, read-accepted}
-use Rattle.sheet.proofs.Inverse.{sheet-headed, part-to-end}
 use Rattle.sheet.specs.Calls.{readNumber}
 use Rattle.sheet.specs.Parse.{samplesIn, samplesOf}
 use Rattle.sheet.specs.declared.Line.the-variants.{Start}
 use Rattle.sheet.specs.declared.Reading.{Reading}
-use lib.IntN.{ℤ}
-use lib.ListN.{length}
-use lib.Seq.{sets}
-use mathlib.Core.List.{List}
-use mathlib.Core.Path.{_≡_, sym, ap, _∙_}
-use borrow.Author.Needs.{needs}
+use Rattle.sheet.proofs.Calls.{Readable, readable, reading-number, read-refused, read-accepted}
+use Rattle.sheet.proofs.Inverse.{sheet-headed, part-to-end}
 use Rattle.sheet.proofs.read.Statement.{statement}
 use Rattle.sheet.proofs.read.Tie as tie
 
@@ -39,7 +39,9 @@ judge-requires : tie.Need-judge-requires
 judge-requires c κs = tt
 
 returns : tie.Need-returns
-returns c = rw (c .before .before .before .judge .ensures) (read-refused (text (c .before .before .before)) (lent (c .before .before .before)) (λ z. c .if1 .taken (number (c .before .before .before) ∙ z)))
+returns c =
+    let j = c .before .before .before in
+    rw (j .judge .ensures) (read-refused (text j) (lent j) (λ z. c .if1 .taken (number j ∙ z)))
 
 sub-fill : tie.Need-sub-fill
 sub-fill c = sheet-headed (text (c .before .before .before)) (can c .form) .long
@@ -61,7 +63,10 @@ returns-2 c =
     let e = c .before .before .before .before in
     let t = text (e .before .before .before) in
     let old = lent (e .before .before .before) in
-    let filled = c .before .fill .ensures ∙ ap (λ (l : List ℕ). sets old 0 (samplesIn Start l)) (part-to-end 14 t) ∙ sets-front (samplesOf t) old (can e .places) in
+    let filled =
+    c .before .fill .ensures
+    ∙ ap (λ (l : List ℕ). sets old 0 (samplesIn Start l)) (part-to-end 14 t)
+    ∙ sets-front (samplesOf t) old (can e .places) in
     rw (e .before .before .before .judge .ensures, filled) (read-accepted t old (none e))
 
 pub read-spec : {M : Type 1} → statement M

@@ -56,8 +56,9 @@ loop-again c =
 
 same-length : tie.Need-same-length Inv-loop μ-loop
 same-length c =
-    let put = c .before .before .before .before .put in
-    c .before .loop .inv .1 .filled .long ∙ ap length (put .ensures) ∙ length-sets (c .before .before .before .before .before .before .before .before .before .args .out .now) 0 namesLine
+    let named = c .before .before .before .before in
+    let lent = named .before .before .before .before .before .args .out .now in
+    c .before .loop .inv .1 .filled .long ∙ ap length (named .put .ensures) ∙ length-sets lent 0 namesLine
 
 returns : tie.Need-returns Inv-loop μ-loop
 returns c =

@@ -1,14 +1,14 @@
 -- `commands::lines::put_refusal` meets its contract.
 -- Assumes nothing.
-use Prim.Native.Nat.{ℕ, _+_, _<_, _≤_}
-use Rattle.commands.proofs.Printing.{refusal-length, refusal-parts}
-use Rattle.text.proofs.Numbers.{length-decimal}
-use Rattle.text.specs.Numbers.{decimal}
-use lib.Seq.{sets}
-use mathlib.Core.List.{List, [], _∷_}
 use mathlib.Core.Path.{ap, ap₂, _∙_}
+use mathlib.Core.List.{List, [], _∷_}
+use Prim.Native.Nat.{ℕ, _+_, _<_, _≤_}
 use native.Mathlib.Omega.{arith}
 use borrow.Author.Needs.{needs}
+use lib.Seq.{sets}
+use Rattle.text.specs.Numbers.{decimal}
+use Rattle.text.proofs.Numbers.{length-decimal}
+use Rattle.commands.proofs.Printing.{refusal-length, refusal-parts}
 use Rattle.commands.proofs.lines.put_refusal.Statement.{statement}
 use Rattle.commands.proofs.lines.put_refusal.Tie as tie
 

@@ -1,9 +1,9 @@
 -- `sheet::parse::advance` meets its contract.
 -- Assumes nothing.
-use Rattle.sheet.specs.Parse.{next}
-use Rattle.sheet.specs.declared.Line.the-variants.{Start, Minus, Zero, Bad}
 use mathlib.Core.Path.{_≡_}
 use borrow.Author.Needs.{needs}
+use Rattle.sheet.specs.Parse.{next}
+use Rattle.sheet.specs.declared.Line.the-variants.{Start, Minus, Zero, Bad}
 use Rattle.sheet.proofs.parse.advance.Statement.{statement}
 use Rattle.sheet.proofs.parse.advance.Tie as tie
 

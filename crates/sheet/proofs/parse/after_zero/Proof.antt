@@ -1,7 +1,7 @@
 -- `sheet::parse::after_zero` meets its contract.
 -- Assumes nothing.
-use Rattle.sheet.specs.Parse.{next}
 use borrow.Author.Tests.{eq-eqb, ne-eqb}
+use Rattle.sheet.specs.Parse.{next}
 use Rattle.sheet.proofs.parse.after_zero.Statement.{statement}
 use Rattle.sheet.proofs.parse.after_zero.Tie as tie
 

@@ -1,12 +1,12 @@
 -- `sheet::parse::first` meets its contract.
 -- Assumes nothing.
-use Rattle.sheet.specs.Parse.{next}
-use Rattle.text.proofs.Numbers.{digit-low}
-use Rattle.text.specs.Numbers.{isDigit}
-use borrow.Author.Tests.{eq-eqb, ne-eqb}
-use mathlib.Core.Bool.{true, false}
 use mathlib.Core.Path.{_≡_, sym, _∙_}
+use mathlib.Core.Bool.{true, false}
 use borrow.Author.Needs.{needs}
+use borrow.Author.Tests.{eq-eqb, ne-eqb}
+use Rattle.text.specs.Numbers.{isDigit}
+use Rattle.text.proofs.Numbers.{digit-low}
+use Rattle.sheet.specs.Parse.{next}
 use Rattle.sheet.proofs.parse.first.Statement.{statement}
 use Rattle.sheet.proofs.parse.first.Tie as tie
 

@@ -1,13 +1,13 @@
 -- `sheet::parse::in_number` meets its contract.
 -- Assumes nothing.
-use Rattle.sheet.specs.Parse.{next}
-use Rattle.text.proofs.Numbers.{digit-low}
-use Rattle.text.specs.Numbers.{isDigit}
-use borrow.Author.Tests.{eq-eqb, ne-eqb, lt-ltb, le-ltb, not-true, not-false}
-use mathlib.Core.Bool.{true, false}
 use mathlib.Core.Path.{_≡_, sym, _∙_}
+use mathlib.Core.Bool.{true, false}
 use native.Mathlib.Omega.{arith}
 use borrow.Author.Needs.{needs}
+use borrow.Author.Tests.{eq-eqb, ne-eqb, lt-ltb, le-ltb, not-true, not-false}
+use Rattle.text.specs.Numbers.{isDigit}
+use Rattle.text.proofs.Numbers.{digit-low}
+use Rattle.sheet.specs.Parse.{next}
 use Rattle.sheet.proofs.parse.in_number.Statement.{statement}
 use Rattle.sheet.proofs.parse.in_number.Tie as tie
 

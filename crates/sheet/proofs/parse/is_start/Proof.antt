@@ -1,7 +1,7 @@
 -- `sheet::parse::is_start` meets its contract.
 -- Assumes nothing.
-use Rattle.sheet.specs.Parse.{isStart}
 use borrow.Author.Needs.{needs}
+use Rattle.sheet.specs.Parse.{isStart}
 use Rattle.sheet.proofs.parse.is_start.Statement.{statement}
 use Rattle.sheet.proofs.parse.is_start.Tie as tie
 

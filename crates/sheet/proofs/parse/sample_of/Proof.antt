@@ -1,9 +1,9 @@
 -- `sheet::parse::sample_of` meets its contract.
 -- Assumes nothing.
-use Rattle.sheet.specs.Parse.{sampleOf}
+use borrow.Author.Needs.{needs, sfits-of}
 use mir.Facts.{toZ-ofZ}
 use mir.Syntax.{w16}
-use borrow.Author.Needs.{needs, sfits-of}
+use Rattle.sheet.specs.Parse.{sampleOf}
 use Rattle.sheet.proofs.parse.sample_of.Statement.{statement}
 use Rattle.sheet.proofs.parse.sample_of.Tie as tie
 

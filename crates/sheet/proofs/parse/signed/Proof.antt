@@ -1,16 +1,16 @@
 -- `sheet::parse::signed` meets its contract.
 -- Assumes nothing.
+use mathlib.Core.Path.{_≡_}
 use Prim.Native.Nat.{ℕ, zero, suc, _<_, _≤_}
-use Rattle.sheet.specs.Parse.{sampleOf}
+use native.Mathlib.Omega.{arith}
+use borrow.Author.Needs.{needs}
 use lib.IntN.{pos, negℤ, _-ℤ_, +ℤ-idl}
 use lib.Signed.{mag}
-use mathlib.Core.Path.{_≡_}
 use mir.Facts.{toZ-ofZ}
 use mir.Syntax.{w16}
 use mir.Val.{SFits, toZ}
 use mir.ValLaws.{toZ-pos}
-use native.Mathlib.Omega.{arith}
-use borrow.Author.Needs.{needs}
+use Rattle.sheet.specs.Parse.{sampleOf}
 use Rattle.sheet.proofs.parse.signed.Statement.{statement}
 use Rattle.sheet.proofs.parse.signed.Tie as tie
 

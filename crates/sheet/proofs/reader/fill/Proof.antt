@@ -1,9 +1,9 @@
 -- `sheet::reader::fill` meets its contract.
 -- Assumes nothing.
 use Prim.Native.Nat.{_-_}
-use Rattle.sheet.proofs.Passes.{Filled, filled-start, filled-room, filled-more, filled-all}
-use lib.ListN.{length}
 use native.Mathlib.Omega.{arith}
+use lib.ListN.{length}
+use Rattle.sheet.proofs.Passes.{Filled, filled-start, filled-room, filled-more, filled-all}
 use Rattle.sheet.proofs.reader.fill.Statement.{statement}
 use Rattle.sheet.proofs.reader.fill.Tie as tie
 
@@ -36,7 +36,8 @@ loop-less c = omega arith
 loop-again : tie.Need-loop-again Inv-loop μ-loop
 loop-again c =
     let put = c .before .before .put-sample .ensures in
-    rw (put .0, put .1, c .advance .ensures) (filled-more _ _ _ _ _ _ (c .before .before .before .before .before .before .loop .inv) (c .before .before .before .before .before .loop-test .taken))
+    let turn = c .before .before .before .before .before in
+    rw (put .0, put .1, c .advance .ensures) (filled-more _ _ _ _ _ _ (turn .before .loop .inv) (turn .loop-test .taken))
 
 same-length : tie.Need-same-length Inv-loop μ-loop
 same-length c = c .before .loop .inv .filling .long

@@ -1,23 +1,32 @@
 -- `sheet::reader::is_headed` meets its contract.
 -- Assumes nothing.
-use Rattle.sheet.proofs.Inverse.{headless, no-first, no-third, a-digit, part-to-end}
-use Rattle.sheet.specs.Text.{bandLine, sampleLine}
-use Rattle.text.specs.Bytes.{startsWith}
+use mathlib.Core.Path.{_≡_, sym, ap, _∙_}
+use mathlib.Core.Bool.{true}
+use mathlib.Core.List.{List, _∷_}
+use Prim.Native.Nat.{ℕ}
+use borrow.Author.Needs.{needs}
 use borrow.Author.Tests.{not-true, not-false}
 use lib.ListN.{drop}
-use mathlib.Core.Bool.{true}
-use mathlib.Core.List.{_∷_}
-use mathlib.Core.Path.{_≡_, sym, ap, _∙_}
-use borrow.Author.Needs.{needs}
+use Rattle.text.specs.Bytes.{startsWith}
+use Rattle.sheet.specs.Text.{bandLine, sampleLine}
+use Rattle.sheet.proofs.Inverse.{headless, no-first, no-third, a-digit, part-to-end}
 use Rattle.sheet.proofs.reader.is_headed.Statement.{statement}
 use Rattle.sheet.proofs.reader.is_headed.Tie as tie
 
-first : (c : tie.Else2) → startsWith bandLine (c .before .before .before .before .before .args .text .now) ≡ true
-first c = sym (c .before .starts-with .ensures) ∙ not-false (c .before .starts-with .result) (c .if2 .left)
+module _ (c : tie.Else2) where
+  abbrev text : List ℕ
+  text = c .before .before .before .before .before .args .text .now
+
+  first : startsWith bandLine text ≡ true
+  first = sym (c .before .starts-with .ensures) ∙ not-false (c .before .starts-with .result) (c .if2 .left)
 
 -- the third line is looked for in the part from place 6 on
-part : (c : tie.After-starts-with2) → c .starts-with2 .result ≡ startsWith (10 ∷ sampleLine) (drop 6 (c .before .before .before .before .before .before .before .before .args .text .now))
-part c = c .starts-with2 .ensures ∙ ap (startsWith (10 ∷ sampleLine)) (part-to-end 6 (c .before .before .before .before .before .before .before .before .args .text .now))
+module _ (c : tie.After-starts-with2) where
+  abbrev past : tie.Else2
+  past = c .before .before .before
+
+  part : c .starts-with2 .result ≡ startsWith (10 ∷ sampleLine) (drop 6 (text past))
+  part = c .starts-with2 .ensures ∙ ap (startsWith (10 ∷ sampleLine)) (part-to-end 6 (text past))
 
 returns : tie.Need-returns
 returns c = headless (c .before .before .args .text .now) (c .if1 .taken)
@@ -29,7 +38,9 @@ starts-with-requires : tie.Need-starts-with-requires
 starts-with-requires c κs = tt
 
 returns-2 : tie.Need-returns-2
-returns-2 c = no-first (c .before .before .before .before .before .args .text .now) (sym (c .before .starts-with .ensures) ∙ not-true (c .before .starts-with .result) (c .if2 .taken))
+returns-2 c =
+    let a = c .before in
+    no-first (a .before .before .before .before .args .text .now) (sym (a .starts-with .ensures) ∙ not-true (a .starts-with .result) (c .if2 .taken))
 
 sub-starts-with : tie.Need-sub-starts-with
 sub-starts-with c = search needs
@@ -47,7 +58,9 @@ starts-with-requires-2 : tie.Need-starts-with-requires-2
 starts-with-requires-2 c κs = tt
 
 returns-3 : tie.Need-returns-3
-returns-3 c = no-third (c .before .before .before .before .before .before .before .before .before .args .text .now) (first (c .before .before .before .before)) (sym (part (c .before)) ∙ not-true (c .before .starts-with2 .result) (c .if3 .taken))
+returns-3 c =
+    let a = c .before in
+    no-third (text (past a)) (first (past a)) (sym (part a) ∙ not-true (a .starts-with2 .result) (c .if3 .taken))
 
 shared-slice-read-is-digit : tie.Need-shared-slice-read-is-digit
 shared-slice-read-is-digit c = search needs
@@ -56,7 +69,10 @@ is-digit-requires : tie.Need-is-digit-requires
 is-digit-requires c κs = tt
 
 returns-4 : tie.Need-returns-4
-returns-4 c = c .is-digit .ensures ∙ a-digit (c .before .before .before .before .before .before .before .before .before .before .before .args .text .now) (first (c .before .before .before .before .before .before)) (sym (part (c .before .before .before)) ∙ not-false (c .before .before .before .starts-with2 .result) (c .before .before .if3 .left))
+returns-4 c =
+    let a = c .before .before .before in
+    c .is-digit .ensures
+    ∙ a-digit (text (past a)) (first (past a)) (sym (part a) ∙ not-false (a .starts-with2 .result) (c .before .before .if3 .left))
 
 pub is-headed-spec : {M : Type 1} → statement M
 is-headed-spec =

@@ -1,9 +1,9 @@
 -- `sheet::reader::look` meets its contract.
 -- Assumes nothing.
 use Prim.Native.Nat.{_-_}
-use Rattle.sheet.proofs.Passes.{Looked, looked-start, looked-more, looked-all}
-use lib.ListN.{length}
 use native.Mathlib.Omega.{arith}
+use lib.ListN.{length}
+use Rattle.sheet.proofs.Passes.{Looked, looked-start, looked-more, looked-all}
 use Rattle.sheet.proofs.reader.look.Statement.{statement}
 use Rattle.sheet.proofs.reader.look.Tie as tie
 

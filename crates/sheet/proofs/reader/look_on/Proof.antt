@@ -1,14 +1,14 @@
 -- `sheet::reader::look_on` meets its contract.
 -- Assumes nothing.
-use Rattle.sheet.proofs.Passes.{looked-feed, looked-other}
-use Rattle.tones.specs.Samples.{areSamples}
+use mathlib.Core.Path.{ap, _∙_}
+use mathlib.Core.List.{[], _∷_}
+use borrow.Author.Needs.{needs, sfits-of}
 use borrow.Author.Tests.{eq-eqb, ne-eqb}
 use lib.IntN.{ℤ}
-use mathlib.Core.List.{[], _∷_}
-use mathlib.Core.Path.{ap, _∙_}
 use mir.Facts.{toZ-ofZ}
 use mir.Syntax.{w16}
-use borrow.Author.Needs.{needs, sfits-of}
+use Rattle.tones.specs.Samples.{areSamples}
+use Rattle.sheet.proofs.Passes.{looked-feed, looked-other}
 use Rattle.sheet.proofs.reader.look_on.Statement.{statement}
 use Rattle.sheet.proofs.reader.look_on.Tie as tie
 
@@ -29,13 +29,18 @@ add-t11 c = search needs
 
 returns : tie.Need-returns
 returns c =
-    let s = c .before .before .before .before .before .before .before .args .seen in
-    let a = c .before .before .before .before .before .before .advance in
-    looked-feed s (c .before .before .before .before .before .before .before .args .byte) (a .result) (a .ensures) (eq-eqb _ _ (c .before .before .before .before .before .if1 .taken)) (c .before .before .are-samples .result)
-    (c .before .before .are-samples .ensures ∙ ap (λ (z : ℤ). areSamples (z ∷ [])) (toZ-ofZ {w = w16} (sfits-of (c .before .before .before .before .sample-of .ok)) ∙ c .before .before .before .before .sample-of .ensures))
+    let feed = c .before .before .before .before .before in
+    let start = feed .before .before in
+    let a = feed .before .advance in
+    let t = c .before .before .are-samples in
+    let z = c .before .before .before .before .sample-of in
+    looked-feed (start .args .seen) (start .args .byte) (a .result) (a .ensures) (eq-eqb _ _ (feed .if1 .taken)) (t .result)
+    (t .ensures ∙ ap (λ (x : ℤ). areSamples (x ∷ [])) (toZ-ofZ {w = w16} (sfits-of (z .ok)) ∙ z .ensures))
 
 returns-2 : tie.Need-returns-2
-returns-2 c = looked-other (c .before .before .args .seen) (c .before .before .args .byte) (c .before .advance .result) (c .before .advance .ensures) (ne-eqb _ _ (c .if1 .left))
+returns-2 c =
+    let a = c .before .advance in
+    looked-other (c .before .before .args .seen) (c .before .before .args .byte) (a .result) (a .ensures) (ne-eqb _ _ (c .if1 .left))
 
 pub look-on-spec : {M : Type 1} → statement M
 look-on-spec =

@@ -1,16 +1,16 @@
 -- `sheet::reader::put_sample` meets its contract.
 -- Assumes nothing.
+use mathlib.Core.Path.{_≡_, refl, ap, _∙_}
+use mathlib.Core.Bool.{true}
+use native.Mathlib.Nat.{add-zero}
+use native.Mathlib.Omega.{arith}
+use borrow.Author.Needs.{needs, sfits-of}
 use borrow.Author.Tests.{eq-eqb, ne-eqb}
 use lib.Dec.{eqb}
 use lib.IntN.{ℤ}
 use lib.ListN.{set}
-use mathlib.Core.Bool.{true}
-use mathlib.Core.Path.{_≡_, refl, ap, _∙_}
 use mir.Facts.{toZ-ofZ}
 use mir.Syntax.{w16}
-use native.Mathlib.Nat.{add-zero}
-use native.Mathlib.Omega.{arith}
-use borrow.Author.Needs.{needs, sfits-of}
 use Rattle.sheet.proofs.reader.put_sample.Statement.{statement}
 use Rattle.sheet.proofs.reader.put_sample.Tie as tie
 
@@ -34,8 +34,9 @@ same-length c = search needs
 
 returns : tie.Need-returns
 returns c =
-    rw (feed (c .before))
-    (refl, ap (λ (z : ℤ). set (c .before .before .args .out .now) (c .before .before .args .at) z) (toZ-ofZ {w = w16} (sfits-of (c .sample-of .ok)) ∙ c .sample-of .ensures))
+    let a = c .before .before .args in
+    let z = c .sample-of in
+    rw (feed (c .before)) (refl, ap (λ (x : ℤ). set (a .out .now) (a .at) x) (toZ-ofZ {w = w16} (sfits-of (z .ok)) ∙ z .ensures))
 
 returns-2 : tie.Need-returns-2
 returns-2 c = rw (ne-eqb _ _ (c .if1 .left)) (rw add-zero, refl)

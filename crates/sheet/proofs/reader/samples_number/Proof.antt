@@ -1,9 +1,9 @@
 -- `sheet::reader::samples_number` meets its contract.
 -- Assumes nothing.
-use Rattle.tones.specs.Bands.{isBand}
-use borrow.Author.Tests.{not-true, not-false, lt-ltb, le-ltb}
-use mathlib.Core.Bool.{true}
 use mathlib.Core.Path.{_≡_, sym, _∙_}
+use mathlib.Core.Bool.{true}
+use borrow.Author.Tests.{not-true, not-false, lt-ltb, le-ltb}
+use Rattle.tones.specs.Bands.{isBand}
 use Rattle.sheet.proofs.reader.samples_number.Statement.{statement}
 use Rattle.sheet.proofs.reader.samples_number.Tie as tie
 
@@ -23,10 +23,22 @@ returns-3 : tie.Need-returns-3
 returns-3 c = rw (known (c .before .before), le-ltb _ _ (c .before .if2 .left), not-true (c .before .before .before .before .args .sound) (c .if3 .taken))
 
 returns-4 : tie.Need-returns-4
-returns-4 c = rw (known (c .before .before .before), le-ltb _ _ (c .before .before .if2 .left), not-false (c .before .before .before .before .before .args .sound) (c .before .if3 .left), lt-ltb _ _ (c .if4 .taken))
+returns-4 c =
+    rw (
+      known (c .before .before .before),
+      le-ltb _ _ (c .before .before .if2 .left),
+      not-false (c .before .before .before .before .before .args .sound) (c .before .if3 .left),
+      lt-ltb _ _ (c .if4 .taken),
+    )
 
 returns-5 : tie.Need-returns-5
-returns-5 c = rw (known (c .before .before .before), le-ltb _ _ (c .before .before .if2 .left), not-false (c .before .before .before .before .before .args .sound) (c .before .if3 .left), le-ltb _ _ (c .if4 .left))
+returns-5 c =
+    rw (
+      known (c .before .before .before),
+      le-ltb _ _ (c .before .before .if2 .left),
+      not-false (c .before .before .before .before .before .args .sound) (c .before .if3 .left),
+      le-ltb _ _ (c .if4 .left),
+    )
 
 pub samples-number-spec : {M : Type 1} → statement M
 samples-number-spec =

@@ -1,9 +1,9 @@
 -- `sheets::reading::read_each` is safe and ends: each part lies within the lines.
 -- Assumes nothing.
-use Prim.Native.Nat.{_≤_, _-_}
-use lib.ListN.{length}
 use mathlib.Core.Logic.{⊎-elim}
+use Prim.Native.Nat.{_≤_, _-_}
 use native.Mathlib.Omega.{arith}
+use lib.ListN.{length}
 use Rattle.sheets.proofs.reading.read_each.Statement.{statement}
 use Rattle.sheets.proofs.reading.read_each.Tie as tie
 

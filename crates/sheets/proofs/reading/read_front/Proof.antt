@@ -1,8 +1,8 @@
 -- `sheets::reading::read_front` is safe: the part that is read lies within the text.
 -- Assumes nothing.
-use lib.Seq.{length-take-le}
 use mathlib.Core.Path.{sym}
 use borrow.Author.Needs.{needs}
+use lib.Seq.{length-take-le}
 use Rattle.sheets.proofs.reading.read_front.Statement.{statement}
 use Rattle.sheets.proofs.reading.read_front.Tie as tie
 

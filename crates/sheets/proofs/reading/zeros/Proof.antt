@@ -1,10 +1,10 @@
 -- `sheets::reading::zeros` meets its contract: the index and the stores stay within the text.
 -- Assumes nothing.
-use Prim.Native.Nat.{_≤_, _-_}
-use lib.ListN.{length, length-set}
 use mathlib.Core.Path.{_≡_, _∙_, sym}
+use Prim.Native.Nat.{_≤_, _-_}
 use native.Mathlib.Omega.{arith}
 use borrow.Author.Needs.{needs}
+use lib.ListN.{length, length-set}
 use Rattle.sheets.proofs.reading.zeros.Statement.{statement}
 use Rattle.sheets.proofs.reading.zeros.Tie as tie
 

@@ -1,9 +1,9 @@
 -- `sheets::showing::show_places` is safe and ends: the index stays within the places.
 -- Assumes nothing.
 use Prim.Native.Nat.{_≤_, _-_}
-use lib.ListN.{length}
 use native.Mathlib.Omega.{arith}
 use borrow.Author.Needs.{needs}
+use lib.ListN.{length}
 use Rattle.sheets.proofs.showing.show_places.Statement.{statement}
 use Rattle.sheets.proofs.showing.show_places.Tie as tie
 
