@@ -2,14 +2,15 @@
 -- signed width.
 -- Assumes nothing.
 use mathlib.Core.Path.{_≡_, refl, ap, _∙_}
+use mathlib.Core.Bool.{true, false, true≢false}
 use Prim.Native.Nat.{ℕ, zero, suc, _+_, _*_, _^_, _≤_, _<_}
-use native.Mathlib.Nat.{le-refl, le-suc, le-trans, lt-of-le-of-lt, mul-le-mul}
+use native.Mathlib.Nat.{zero-add, not-suc-le-zero, le-refl, le-suc, le-trans, lt-of-le-of-lt, mul-le-mul}
 use native.Mathlib.Decide.{decLt}
 use native.Mathlib.Omega.{arith}
-use borrow.Author.Tests.{lt-ltb, le-ltb}
+use borrow.Author.Tests.{ltb-true, lt-ltb, le-ltb}
 use lib.Dec.{T, ltb, ltb→lt}
 use lib.IntN.{ℤ, pos, negsuc, negℤ, natAbs, subℕ, _+ℤ_, _-ℤ_, _*ℤ_, +ℤ-comm, +ℤ-negℤ-cancel, -ℤ-+ℤ-cancel}
-use lib.Signed.{mag}
+use lib.Signed.{mag, ltZ, nonNeg}
 use mir.Syntax.{Width}
 use mir.Val.{SFits, hbits}
 
@@ -17,6 +18,15 @@ pub natAbs-negℤ : (z : ℤ) → natAbs (negℤ z) ≡ natAbs z
 natAbs-negℤ (pos zero) = refl
 natAbs-negℤ (pos (suc n)) = refl
 natAbs-negℤ (negsuc n) = refl
+
+-- below 0 the difference from 0 is the size, elsewhere the number itself is
+pub negated : (z : ℤ) → ltZ z (pos 0) ≡ true → pos 0 -ℤ z ≡ pos (natAbs z)
+negated (pos n) e = absurd (not-suc-le-zero (ltb-true n 0 e))
+negated (negsuc n) e = rw zero-add
+
+pub not-negative : (z : ℤ) → ltZ z (pos 0) ≡ false → T (nonNeg z)
+not-negative (pos n) e = tt
+not-negative (negsuc n) e = absurd (true≢false e)
 
 natAbs-subℕ : (a b : ℕ) → natAbs (subℕ a b) ≤ a + b
 natAbs-subℕ a b = go (decLt a b)

@@ -1,28 +1,16 @@
 -- `text::magnitude` meets its contract.
 -- Assumes nothing.
 use mathlib.Core.Path.{_≡_}
-use mathlib.Core.Bool.{true, false, true≢false}
 use Prim.Native.Nat.{_≤_}
-use native.Mathlib.Nat.{zero-add, not-suc-le-zero}
 use native.Mathlib.Omega.{arith}
-use borrow.Author.Tests.{ltb-true}
-use lib.Dec.{T}
-use lib.IntN.{ℤ, pos, negsuc, natAbs, _-ℤ_}
-use lib.Signed.{ltZ, nonNeg, natAbs-le}
+use lib.IntN.{ℤ, pos, natAbs, _-ℤ_}
+use lib.Signed.{natAbs-le}
 use mir.Facts.{toZ-ofZ}
 use mir.Syntax.{w16, w32}
 use mir.Val.{SFits, toZ, ofZ}
+use Rattle.integers.proofs.Size.{negated, not-negative}
 use Rattle.text.proofs.magnitude.Statement.{statement}
 use Rattle.text.proofs.magnitude.Tie as tie
-
--- below 0 the difference from 0 is the size, elsewhere the number itself is
-negated : (z : ℤ) → ltZ z (pos 0) ≡ true → pos 0 -ℤ z ≡ pos (natAbs z)
-negated (pos n) e = absurd (not-suc-le-zero (ltb-true n 0 e))
-negated (negsuc n) e = rw zero-add
-
-kept : (z : ℤ) → ltZ z (pos 0) ≡ false → T (nonNeg z)
-kept (pos n) e = tt
-kept (negsuc n) e = absurd (true≢false e)
 
 module _ (z : ℤ) (fits : SFits w16 z) where
   wide : SFits w32 z
@@ -59,7 +47,7 @@ cast-result-2 : tie.Need-cast-result-2
 cast-result-2 c =
     let z = c .before .args .z in
     let e = held z (c .before .fits .z) in
-    rw e (kept z (rw e at (c .if1 .left)), omega (arith, small z (c .before .fits .z)))
+    rw e (not-negative z (rw e at (c .if1 .left)), omega (arith, small z (c .before .fits .z)))
 
 returns : tie.Need-returns
 returns c = rw (difference c, toZ-ofZ {w = w32} (size (c .before .args .z) (c .before .fits .z)))
