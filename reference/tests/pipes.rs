@@ -142,10 +142,14 @@ fn input_that_does_not_end() {
     assert_eq!(printed_of_endless("demodulate", b'0'), refused(6));
 }
 
-/// Gives the input, and tells how the program ends.
-fn fed(mut program: Child, input: &[u8]) -> ExitStatus {
+/// Gives the input. Returns how the program ends, and its error report.
+fn fed(mut program: Child, input: &[u8]) -> (ExitStatus, String) {
     let _ = input_of(&mut program).write_all(input);
-    ended(program)
+    let mut errors = program.stderr.take().expect("standard error is a pipe");
+    let status = ended(program);
+    let mut report = String::new();
+    errors.read_to_string(&mut report).expect("it is a text");
+    (status, report)
 }
 
 /// It ends by itself with status 0, or by the signal for a pipe that nobody
@@ -155,8 +159,14 @@ fn assert_ended_or_stopped(status: ExitStatus, what: &str) {
     assert!(soundly, "{what}: {status:?}");
 }
 
-fn assert_ended(status: ExitStatus, what: &str) {
-    assert!(status.success(), "{what}: {status:?}");
+/// It cannot print, reports that, and ends with status 0.
+fn assert_reported(program: &str, started: Child, input: &[u8]) {
+    let (status, report) = fed(started, input);
+    assert!(status.success(), "{program}: {status:?}");
+    assert_eq!(
+        report,
+        format!("{program}: the output could not be written\n")
+    );
 }
 
 #[test]
@@ -164,7 +174,7 @@ fn output_that_nobody_reads() {
     for (program, input) in inputs() {
         let mut started = started(program, Stdio::piped(), Stdio::piped());
         drop(started.stdout.take());
-        assert_ended_or_stopped(fed(started, &input), program);
+        assert_ended_or_stopped(fed(started, &input).0, program);
     }
 }
 
@@ -174,7 +184,7 @@ fn output_that_nobody_reads_and_no_signal() {
     for (program, input) in inputs() {
         let mut started = in_shell(program, "trap '' PIPE; exec \"$0\"");
         drop(started.stdout.take());
-        assert_ended(fed(started, &input), program);
+        assert_reported(program, started, &input);
     }
 }
 
@@ -182,10 +192,10 @@ fn output_that_nobody_reads_and_no_signal() {
 fn output_that_is_closed_or_full() {
     for (program, input) in inputs() {
         let closed = in_shell(program, "exec \"$0\" >&-");
-        assert_ended(fed(closed, &input), program);
+        assert_reported(program, closed, &input);
         let full = File::options().write(true).open("/dev/full");
         let full = started(program, Stdio::piped(), full.expect("the device is there"));
-        assert_ended(fed(full, &input), program);
+        assert_reported(program, full, &input);
     }
 }
 
@@ -222,6 +232,7 @@ fn in_shell(program: &str, line: &str) -> Child {
         .args(["-c", line, &path(program)])
         .stdin(Stdio::piped())
         .stdout(Stdio::piped())
+        .stderr(Stdio::piped())
         .spawn()
         .expect("there is a shell")
 }

@@ -1,4 +1,5 @@
 // Prints the events of the sheet on standard input, one to a line.
+use libc::STDERR_FILENO;
 use libc::STDIN_FILENO;
 use libc::STDOUT_FILENO;
 
@@ -8,5 +9,11 @@ fn main() {
     let n = io::read_full(STDIN_FILENO, &mut text);
     let mut out = [0u8; 4806];
     let len = commands::demodulate(&text[..n], &mut out);
-    io::write_all(STDOUT_FILENO, &out[..len]);
+    // A program has no exit status to tell it by.
+    if !io::write_all(STDOUT_FILENO, &out[..len]) {
+        io::write_all(
+            STDERR_FILENO,
+            b"demodulate: the output could not be written\n",
+        );
+    }
 }

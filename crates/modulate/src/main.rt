@@ -1,4 +1,5 @@
 // Prints the sheet of a message: standard input is a band digit and the characters behind it.
+use libc::STDERR_FILENO;
 use libc::STDIN_FILENO;
 use libc::STDOUT_FILENO;
 
@@ -8,5 +9,11 @@ fn main() {
     let n = io::read_full(STDIN_FILENO, &mut input);
     let mut out = [0u8; 65536];
     let len = commands::modulate(&input[..n], &mut out);
-    io::write_all(STDOUT_FILENO, &out[..len]);
+    // A program has no exit status to tell it by.
+    if !io::write_all(STDOUT_FILENO, &out[..len]) {
+        io::write_all(
+            STDERR_FILENO,
+            b"modulate: the output could not be written\n",
+        );
+    }
 }

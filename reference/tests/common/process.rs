@@ -15,11 +15,12 @@ pub fn path(program: &str) -> String {
     format!("{built}{program}")
 }
 
-/// Starts a program with these two ends.
+/// Starts a program with these two ends; standard error is a pipe.
 pub fn started(program: &str, input: impl Into<Stdio>, output: impl Into<Stdio>) -> Child {
     Command::new(path(program))
         .stdin(input)
         .stdout(output)
+        .stderr(Stdio::piped())
         .spawn()
         .expect("the program is built before these tests")
 }
@@ -28,10 +29,11 @@ pub fn input_of(program: &mut Child) -> ChildStdin {
     program.stdin.take().expect("standard input is a pipe")
 }
 
-/// What a program prints. It must end with status 0.
+/// What a program prints. It must end with status 0 and report no error.
 pub fn output_of(program: Child) -> Vec<u8> {
     let output = program.wait_with_output().expect("the program ends");
     assert!(output.status.success(), "{:?}", output.status);
+    assert_eq!(output.stderr, b"");
     output.stdout
 }
 
