@@ -13,6 +13,7 @@ struct Row {
     heading: String,
     first: String,
     second: Vec<String>,
+    last: Vec<String>,
 }
 
 /// The texts between backquotes.
@@ -21,7 +22,7 @@ fn quoted(text: &str) -> Vec<String> {
     parts.map(String::from).collect()
 }
 
-/// Every row of every table, with what its first two cells quote.
+/// Every row of every table, with what its first, second and last cell quote.
 fn rows() -> Vec<Row> {
     let text = fs::read_to_string(format!("{ROOT}/docs/MUST-FAIL.md")).expect("the document");
     let mut heading = String::new();
@@ -35,6 +36,7 @@ fn rows() -> Vec<Row> {
                 heading: heading.clone(),
                 first: quoted(cells[1]).swap_remove(0),
                 second: quoted(cells[2]),
+                last: quoted(cells[cells.len() - 2]),
             });
         }
     }
@@ -87,6 +89,28 @@ fn each_edit_has_one_row() {
     let rows = rows().into_iter().filter(|row| row.heading != FUNCTIONS);
     let named = rows.map(|row| format!("{}/{}", row.heading, row.first));
     same(&named.collect::<Vec<_>>(), &edits());
+}
+
+/// The proof and the step at which the first error of a log stands.
+fn first_error(log: &str) -> Option<[String; 2]> {
+    let line = log.lines().find(|line| line.contains(": error: "))?;
+    let (place, message) = line.split_once(": error: ")?;
+    let (_, path) = place.split_once("/proofs/")?;
+    let proof = path.split(".antt").next()?.trim_end_matches("/Proof");
+    let step = quoted(message).into_iter().next()?;
+    Some([proof.trim_start_matches('+').into(), step])
+}
+
+/// Of the edits that were tried. The gate tries all of them.
+#[test]
+fn each_row_has_the_step_of_the_log() {
+    for row in rows().into_iter().filter(|row| row.heading != FUNCTIONS) {
+        let edit = format!("{}/{}", row.heading, row.first);
+        if let Ok(log) = fs::read_to_string(format!("{ROOT}/target/must-fail/{edit}/.log")) {
+            let found = first_error(&log).unwrap_or_else(|| panic!("{edit}: no error"));
+            assert_eq!(row.last[..2], found, "{edit}");
+        }
+    }
 }
 
 /// The name of the public function that a line of code begins.
