@@ -5,14 +5,14 @@ use mathlib.Core.Path.{_≡_, refl, ap, _∙_}
 use mathlib.Core.Bool.{true, false, true≢false}
 use Prim.Native.Nat.{ℕ, zero, suc, _+_, _*_, _^_, _≤_, _<_}
 use native.Mathlib.Nat.{zero-add, not-suc-le-zero, le-refl, le-suc, le-trans, lt-of-le-of-lt, mul-le-mul}
-use native.Mathlib.Decide.{decLt}
 use native.Mathlib.Omega.{arith}
-use borrow.Author.Tests.{ltb-true, lt-ltb, le-ltb}
+use borrow.Author.Tests.{ltb-true, ltb-false}
 use lib.Dec.{T, ltb, ltb→lt}
 use lib.IntN.{ℤ, pos, negsuc, negℤ, natAbs, subℕ, _+ℤ_, _-ℤ_, _*ℤ_, +ℤ-comm, +ℤ-negℤ-cancel, -ℤ-+ℤ-cancel}
 use lib.Signed.{mag, ltZ, nonNeg}
 use mir.Syntax.{Width}
 use mir.Val.{SFits, hbits}
+use Rattle.integers.proofs.Tests.{cond-split}
 
 pub natAbs-negℤ : (z : ℤ) → natAbs (negℤ z) ≡ natAbs z
 natAbs-negℤ (pos zero) = refl
@@ -29,11 +29,8 @@ not-negative (pos n) e = tt
 not-negative (negsuc n) e = absurd (true≢false e)
 
 natAbs-subℕ : (a b : ℕ) → natAbs (subℕ a b) ≤ a + b
-natAbs-subℕ a b = go (decLt a b)
-  where
-    go : Dec (a < b) → natAbs (subℕ a b) ≤ a + b
-    go (yes h) = rw (lt-ltb a b h) (omega arith)
-    go (no f) = let h : b ≤ a = omega arith in rw (le-ltb a b h) (omega arith)
+natAbs-subℕ a b =
+    cond-split (λ (z : ℤ). natAbs z ≤ a + b) (ltb a b) _ _ (λ e. omega (arith, ltb-true a b e)) (λ e. omega (arith, ltb-false a b e))
 
 pub natAbs-+ℤ : (a b : ℤ) → natAbs (a +ℤ b) ≤ natAbs a + natAbs b
 natAbs-+ℤ (pos a) (pos b) = le-refl (a + b)

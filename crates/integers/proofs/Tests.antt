@@ -1,12 +1,14 @@
--- Tests that antt computes over a list or a range, and what each gives at every place; and properties of a choice.
+-- Tests that antt computes over a list or a range, and what each gives at every place; and proofs by the cases of a choice.
 -- Assumes nothing.
 use mathlib.Core.Path.{_≡_, refl, _∙_, ap}
 use mathlib.Core.Bool.{Bool, true, false, cond, _&&_, false≢true}
 use mathlib.Core.List.{List, [], _∷_}
 use mathlib.Core.Logic.{_⊎_, inl, inr}
 use mathlib.Mathlib.Data.Bool.Basic.{and-elim-left, and-elim-right}
-use Prim.Native.Nat.{ℕ, zero, suc, _+_, _<_}
+use Prim.Native.Nat.{ℕ, zero, suc, _+_, _<_, _≤_}
 use native.Mathlib.Nat.{add-zero, zero-add, add-suc, suc-add, le-of-suc-le-suc, not-suc-le-zero, eq-or-lt-of-le, suc-inj}
+use native.Mathlib.Decide.{decLt}
+use native.Mathlib.Omega.{arith}
 use borrow.Author.Tests.{eqb-true}
 use lib.Dec.{T, eqb}
 use lib.IntN.{ℤ, pos, negsuc}
@@ -17,9 +19,22 @@ pub cond-split : {A : Type 0} (P : A → Type 0) (b : Bool) (x y : A) → (b ≡
 cond-split P true x y p q = p refl
 cond-split P false x y p q = q refl
 
--- what holds of both sides holds of a choice
+-- and so does what holds of both
 pub cond-case : {A : Type 0} (P : A → Type 0) (b : Bool) (x y : A) → P x → P y → P (cond b x y)
 cond-case P b x y p q = cond-split P b x y (λ e. p) (λ e. q)
+
+-- the same of two choices by one test
+pub cond-both : {A B : Type 0} (P : A → B → Type 0) (b : Bool) {x y : A} {u v : B} → (b ≡ true → P x u) → (b ≡ false → P y v) → P (cond b x y) (cond b u v)
+cond-both P true p q = p refl
+cond-both P false p q = q refl
+
+-- what follows if m is below n, and if it is not
+pub lt-or-le : {P : Type 0} (m n : ℕ) → (m < n → P) → (n ≤ m → P) → P
+lt-or-le {P} m n below above = go (decLt m n)
+  where
+    go : Dec (m < n) → P
+    go (yes h) = below h
+    go (no f) = above (omega arith)
 
 -- a test that passes, as the type that the orders of the library hold
 pub true-T : (b : Bool) → b ≡ true → T b
