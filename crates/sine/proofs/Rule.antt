@@ -3,9 +3,9 @@
 use mathlib.Core.Path.{_≡_, _∙_, sym, ap}
 use Prim.Native.Nat.{ℕ, zero, suc, _+_, _*_, _-_, _/_, _%_, _<_, _≤_}
 use native.Mathlib.Nat.{mod-add-div'}
-use native.Mathlib.Decide.{decLt}
 use native.Mathlib.Omega.{arith}
 use lib.IntN.{ℤ, negℤ}
+use Rattle.integers.proofs.Tests.{lt-or-le}
 use Rattle.sine.specs.Sine.{S, IsSine, SineRule}
 use Rattle.sine.proofs.Quarter.{rule, unique}
 use Rattle.sine.proofs.Laws.{S-nearest, S-mirror, S-opposite, S-period, S-mod}
@@ -28,22 +28,19 @@ module _ (f : ℕ → ℤ) (r : SineRule f) where
   first p h = S-unique p (f p) h (r .quarter p h)
 
   half : (p : ℕ) → p < 960 → f p ≡ S p
-  half p h = go (decLt 480 p)
-    where
-      go : Dec (480 < p) → f p ≡ S p
-      go (yes l) =
-          let e : (p + (960 - p)) % 1920 ≡ 960 = omega arith in
-          r .mirror p (960 - p) e ∙ first (960 - p) (omega arith) ∙ sym (S-mirror p (960 - p) e)
-      go (no g) = first p (omega arith)
+  half p h =
+      lt-or-le 480 p
+      (λ l.
+      let e : (p + (960 - p)) % 1920 ≡ 960 = omega arith in
+      r .mirror p (960 - p) e ∙ first (960 - p) (omega arith) ∙ sym (S-mirror p (960 - p) e))
+      (first p)
 
   cycle : (p : ℕ) → p < 1920 → f p ≡ S p
-  cycle p h = go (decLt p 960)
-    where
-      go : Dec (p < 960) → f p ≡ S p
-      go (yes l) = half p l
-      go (no g) =
-          let e : p - 960 + 960 ≡ p = omega arith in
-          ap f (sym e) ∙ r .opposite (p - 960) ∙ ap negℤ (half (p - 960) (omega arith)) ∙ sym (S-opposite (p - 960)) ∙ ap S e
+  cycle p h =
+      lt-or-le p 960 (half p)
+      (λ l.
+      let e : p - 960 + 960 ≡ p = omega arith in
+      ap f (sym e) ∙ r .opposite (p - 960) ∙ ap negℤ (half (p - 960) (omega arith)) ∙ sym (S-opposite (p - 960)) ∙ ap S e)
 
   cycles : (p k : ℕ) → f (p + k * 1920) ≡ f p
   cycles p zero = let e : p + 0 * 1920 ≡ p = omega arith in ap f e
