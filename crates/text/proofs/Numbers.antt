@@ -1,17 +1,17 @@
 -- Laws of numbers as text: the bytes that are digits, the digits of a number one by one, how many there are, and their places.
 -- Assumes nothing.
 use mathlib.Core.Path.{_≡_, refl, sym, ap, _∙_}
-use mathlib.Core.Bool.{Bool, true, false, cond}
+use mathlib.Core.Bool.{true}
 use mathlib.Core.List.{List, [], _∷_, _++_}
 use mathlib.Mathlib.Data.Bool.Basic.{and-elim-left, and-elim-right, and-intro}
 use Prim.Native.Nat.{ℕ, zero, suc, _+_, _*_, _-_, _^_, _/_, _%_, _<_, _≤_}
-use native.Mathlib.Decide.{decLe}
 use native.Mathlib.Nat.{not-suc-le-zero, lt-suc-self, pow-succ'}
 use native.Mathlib.Omega.{arith}
 use borrow.Author.Tests.{leb-true, ltb-false, le-leb, lt-ltb, le-ltb}
 use lib.Dec.{leb, ltb}
 use lib.ListN.{length, set, replicate, length-append}
 use lib.Seq.{append-snoc, set-append-seam}
+use Rattle.integers.proofs.Tests.{cond-both, lt-or-le}
 use Rattle.text.specs.Numbers.{isDigit, decimalIn, decimal, digitsOf, hexadecimal}
 use Rattle.text.specs.declared.Digits.{Digits}
 
@@ -28,10 +28,6 @@ is-digit b low high = and-intro (le-leb 48 b low) (le-leb b 57 high)
 
 -- ---- decimal
 
-cond-else : (b : Bool) (x y z : List ℕ) → (b ≡ false → y ≡ z) → cond b x y ≡ cond b x z
-cond-else true x y z e = refl
-cond-else false x y z e = e refl
-
 longer : (d : ℕ) {xs ys : List ℕ} → xs ≡ ys → xs ++ (d ∷ []) ≡ ys ++ (d ∷ [])
 longer d = ap (λ (xs : List ℕ). xs ++ (d ∷ []))
 
@@ -40,7 +36,9 @@ counted : (k m n : ℕ) → n < k → n < m → decimalIn k n ≡ decimalIn m n
 unfolding decimalIn
 counted zero m n g h = absurd (not-suc-le-zero g)
 counted (suc k) zero n g h = absurd (not-suc-le-zero h)
-counted (suc k) (suc m) n g h = cond-else (ltb n 10) _ _ _ (λ e. let l = ltb-false n 10 e in longer (48 + n % 10) (counted k m (n / 10) (omega arith) (omega arith)))
+counted (suc k) (suc m) n g h =
+    cond-both (λ (x y : List ℕ). x ≡ y) (ltb n 10) (λ e. refl)
+    (λ e. let l = ltb-false n 10 e in longer (48 + n % 10) (counted k m (n / 10) (omega arith) (omega arith)))
 
 pub decimal-small : (n : ℕ) → n < 10 → decimal n ≡ (48 + n) ∷ []
 unfolding decimal decimalIn
@@ -68,11 +66,9 @@ length-more n h = ap length (decimal-more n h) ∙ length-append (decimal (n / 1
 -- a number below 10, 100, 1000 .. has at most 1, 2, 3 .. digits
 pub length-decimal : (k n : ℕ) → n < 10 ^ suc k → length (decimal n) ≤ suc k
 length-decimal zero n h = omega (arith, length-small n h)
-length-decimal (suc k) n h = go (decLe 10 n) (length-decimal k (n / 10) (omega (arith, pow-succ' 10 (suc k))))
-  where
-    go : Dec (10 ≤ n) → length (decimal (n / 10)) ≤ suc k → length (decimal n) ≤ suc (suc k)
-    go (yes l) e = omega (arith, length-more n l)
-    go (no l) e = omega (arith, length-small n (omega arith))
+length-decimal (suc k) n h =
+    let e = length-decimal k (n / 10) (omega (arith, pow-succ' 10 (suc k))) in
+    lt-or-le n 10 (λ l. omega (arith, length-small n l)) (λ l. omega (arith, length-more n l))
 
 -- ---- digits in five places
 
