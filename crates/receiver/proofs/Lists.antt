@@ -1,15 +1,13 @@
 -- Demand 2 over lists of block calls, from the law of lists of calls and the laws of the step rule.
 -- Assumes nothing.
-use mathlib.Core.Path.{_≡_, refl, sym, ap, ap₂, _∙_}
+use mathlib.Core.Path.{_≡_, sym, ap, ap₂, _∙_}
 use mathlib.Core.Bool.{true, false≢true}
 use mathlib.Core.List.{List, [], _∷_, _++_}
 use mathlib.Mathlib.Data.Bool.Basic.{and-intro}
 use Prim.Native.Nat.{ℕ, suc}
-use lib.Dec.{eqb·suc-zero}
+use lib.Dec.{eqb, eqb·suc-zero}
 use lib.IntN.{ℤ}
-use lib.ListN.{length, drop}
-use lib.Seq.{take-append-seam}
-use Rattle.calls.specs.Outcome.{Outcome, refused, accepted, isAccepted, front}
+use Rattle.calls.specs.Outcome.{Outcome, refused, isAccepted, front}
 use Rattle.calls.specs.Runs.{after}
 use Rattle.calls.specs.Lists as lists
 use Rattle.calls.proofs.Runs.{RunLaws, run-laws}
@@ -18,8 +16,8 @@ use Rattle.tones.specs.Samples.{areSamples}
 use Rattle.tones.proofs.Samples.{samples-append}
 use Rattle.receiver.specs.declared.Receiver.{Receiver}
 use Rattle.receiver.specs.Step.{stepOf, eventsAt, stateAfter, eventsAfter}
-use Rattle.receiver.specs.Calls.{inRange, blockOf}
-use Rattle.receiver.specs.Lists.{Call, callOf, samplesRead, eventsRead, OneReading, TwoBlocks}
+use Rattle.receiver.specs.Calls.{inRange}
+use Rattle.receiver.specs.Lists.{byValue, Call, callOf, samplesRead, eventsRead, OneReading, TwoBlocks}
 use Rattle.receiver.proofs.Ranges.{state-kept}
 use Rattle.receiver.proofs.Counting.{events-few}
 use Rattle.receiver.proofs.Calls.{block-0, block-case}
@@ -61,44 +59,34 @@ one-reading s calls =
 
 -- ---- two blocks
 
--- what is known of an accepted call
-record AcceptedCall (s : Receiver) (xs : List ℤ) (o : Outcome Receiver ℕ) : Type 0 where
-  range : inRange s ≡ true
-  samples : areSamples xs ≡ true
-  state : o .state ≡ stateAfter s xs
-  events : front o ≡ eventsAfter s xs
+-- an accepted call
+module _ (s : Receiver) (c : Call) (a : isAccepted (callOf s c) ≡ true) where
+  call-state : callOf s c .state ≡ stateAfter s (c .samples)
+  call-state = rw a at (call-runs s c .state)
 
-accepted-call : (s : Receiver) (c : Call) → isAccepted (callOf s c) ≡ true → AcceptedCall s (c .samples) (callOf s c)
-accepted-call s c =
-    block-case s (c .samples) (c .lent) (λ (o : Outcome Receiver ℕ). isAccepted o ≡ true → AcceptedCall s (c .samples) o)
-    (no 1) (no 2) (no 4) (no 3)
-    (λ r a e.
-    record {
-      range = r;
-      samples = a;
-      state = refl;
-      events = take-append-seam (eventsAfter s (c .samples)) (drop (length (eventsAfter s (c .samples))) (c .lent));
-    })
-  where
-    no : (n : ℕ) → isAccepted (refused (suc n) s (c .lent)) ≡ true → AcceptedCall s (c .samples) (refused (suc n) s (c .lent))
-    no n e = absurd (false≢true (sym (eqb·suc-zero n) ∙ e))
+  call-events : front (callOf s c) ≡ eventsAfter s (c .samples)
+  call-events = rw a at (call-runs s c .wrote)
+
+  call-sound : (inRange s ≡ true) × (areSamples (c .samples) ≡ true)
+  call-sound =
+      block-case s (c .samples) (c .lent) (λ (o : Outcome Receiver ℕ). isAccepted o ≡ true → (inRange s ≡ true) × (areSamples (c .samples) ≡ true))
+      (no 1) (no 2) (no 4) (no 3) (λ r x e. (r, x)) a
+    where
+      no : (n : ℕ) → eqb (suc n) 0 ≡ true → (inRange s ≡ true) × (areSamples (c .samples) ≡ true)
+      no n e = absurd (false≢true (sym (eqb·suc-zero n) ∙ e))
 
 pub two-blocks : (s : Receiver) (one two : Call) (lent : List ℕ) → TwoBlocks s one two lent
 two-blocks s one two lent a b few room =
     let xs : List ℤ = one .samples in
     let ys : List ℤ = two .samples in
-    let first : AcceptedCall s xs (callOf s one) = accepted-call s one a in
-    let second : AcceptedCall (callOf s one .state) ys (callOf (callOf s one .state) two) = accepted-call (callOf s one .state) two b in
-    let both : blockOf s (xs ++ ys) lent ≡ accepted (stateAfter s (xs ++ ys)) (eventsAfter s (xs ++ ys)) lent =
-    block-0 s (xs ++ ys) lent (first .range) few (samples-append xs ys ∙ and-intro (first .samples) (second .samples)) room in
+    let next : Receiver = callOf s one .state in
+    let both : Call = record { entry = byValue; samples = xs ++ ys; lent = lent } in
+    let ok = ap isAccepted (block-0 s (xs ++ ys) lent (call-sound s one a .0) few (samples-append xs ys ∙ and-intro (call-sound s one a .1) (call-sound next two b .1)) room) in
+    let e : next ≡ stateAfter s xs = call-state s one a in
     record {
-      accepted = ap isAccepted both;
-      state =
-          ap (λ (o : Outcome Receiver ℕ). o .state) both ∙ reading-laws .after-append s xs ys
-          ∙ sym (second .state ∙ ap (λ (t : Receiver). stateAfter t ys) (first .state));
+      accepted = ok;
+      state = call-state s both ok ∙ reading-laws .after-append s xs ys ∙ sym (call-state next two b ∙ ap (λ (t : Receiver). stateAfter t ys) e);
       events =
-          ap front both
-          ∙ take-append-seam (eventsAfter s (xs ++ ys)) (drop (length (eventsAfter s (xs ++ ys))) lent)
-          ∙ reading-laws .gives-append s xs ys
-          ∙ sym (ap₂ (λ (l m : List ℕ). l ++ m) (first .events) (second .events ∙ ap (λ (t : Receiver). eventsAfter t ys) (first .state)));
+          call-events s both ok ∙ reading-laws .gives-append s xs ys
+          ∙ sym (ap₂ (λ (l m : List ℕ). l ++ m) (call-events s one a) (call-events next two b ∙ ap (λ (t : Receiver). eventsAfter t ys) e));
     }
