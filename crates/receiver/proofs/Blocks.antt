@@ -5,13 +5,13 @@ use mathlib.Core.Bool.{true}
 use mathlib.Core.List.{List, _++_}
 use mathlib.Mathlib.Data.Bool.Basic.{and-intro}
 use Prim.Native.Nat.{ℕ, _+_, _-_, _<_, _≤_, min}
-use native.Mathlib.Decide.{decLt}
 use native.Mathlib.Nat.{zero-add}
 use native.Mathlib.Omega.{arith}
 use borrow.Author.Tests.{lt-ltb, le-ltb}
 use lib.IntN.{ℤ}
 use lib.ListN.{length, take, drop, length-append, length-drop}
 use lib.Seq.{sets, length-sets, length-take-le, take-all, take-at, drop-append-le, drop-append-add}
+use Rattle.integers.proofs.Tests.{lt-or-le}
 use Rattle.integers.proofs.Lists.{sets-append, sets-front, sets-whole, drop-take}
 use Rattle.calls.specs.Outcome.{outcome, accepted}
 use Rattle.calls.proofs.Runs.{run-laws}
@@ -110,21 +110,20 @@ module _ {s : Receiver} {xs : List ℤ} {lent : List ℕ} {n : ℕ} {head : List
       ∙ and-intro (samples-drop 1 (s .window) (in-range s (a .range) .window)) (samples-take n xs (a .samples))
 
   last-is : lastWindow head xs ≡ stateAfter s xs .window
-  last-is = go (decLt (length xs) 32) ∙ sym (window-after s xs (a .long))
-    where
-      go : Dec (length xs < 32) → lastWindow head xs ≡ drop (length xs) (s .window ++ xs)
-      go (yes l) =
-          let e : n ≡ length xs = omega (arith, h .cut) in
-          let f : 32 + n ≡ length xs + 32 = omega arith in
-          rw (lt-ltb (length xs) 32 l)
-          (sym (drop-take (length xs) 32 head)
-          ∙ ap (λ (k : ℕ). drop (length xs) (take k head)) (sym f)
-          ∙ ap (drop (length xs)) (h .whole ∙ ap (λ (l : List ℤ). s .window ++ l) (take-all n xs (omega arith))))
-      go (no g) =
-          let l : 32 ≤ length xs = omega arith in
-          let e : length xs ≡ length (s .window) + (length xs - 32) = omega (arith, a .long) in
-          rw (le-ltb (length xs) 32 l)
-          (sym (ap (λ (k : ℕ). drop k (s .window ++ xs)) e ∙ drop-append-add (s .window) xs (length xs - 32)))
+  last-is =
+      lt-or-le (length xs) 32
+      (λ l.
+      let e : n ≡ length xs = omega (arith, h .cut) in
+      let f : 32 + n ≡ length xs + 32 = omega arith in
+      rw (lt-ltb (length xs) 32 l)
+      (sym (drop-take (length xs) 32 head)
+      ∙ ap (λ (k : ℕ). drop (length xs) (take k head)) (sym f)
+      ∙ ap (drop (length xs)) (h .whole ∙ ap (λ (l : List ℤ). s .window ++ l) (take-all n xs (omega arith)))))
+      (λ l.
+      let e : length xs ≡ length (s .window) + (length xs - 32) = omega (arith, a .long) in
+      rw (le-ltb (length xs) 32 l)
+      (sym (ap (λ (k : ℕ). drop k (s .window ++ xs)) e ∙ drop-append-add (s .window) xs (length xs - 32))))
+      ∙ sym (window-after s xs (a .long))
 
   -- ---- by the decisions that the code makes
 

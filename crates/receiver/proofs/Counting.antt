@@ -2,7 +2,7 @@
 -- again at none: two events are at least 49 samples apart.
 -- Assumes nothing.
 use mathlib.Core.Path.{_≡_}
-use mathlib.Core.Bool.{Bool, true, false, not, cond, _&&_}
+use mathlib.Core.Bool.{true, not, cond, _&&_}
 use mathlib.Core.List.{List, [], _∷_}
 use Prim.Native.Nat.{ℕ, _+_, _-_, _*_, _<_, _≤_}
 use native.Mathlib.Omega.{arith}
@@ -10,7 +10,7 @@ use borrow.Author.Tests.{ne-eqb, eqb-true, eqb-false}
 use lib.Dec.{leb, eqb}
 use lib.IntN.{ℤ}
 use lib.ListN.{length, length-append}
-use Rattle.integers.proofs.Tests.{cond-case, cond-split}
+use Rattle.integers.proofs.Tests.{cond-case, cond-split, cond-both}
 use Rattle.calls.specs.Runs.{gives}
 use Rattle.receiver.specs.declared.Decision.{Decision}
 use Rattle.receiver.specs.declared.Next.{Next}
@@ -30,17 +30,12 @@ progress (Waiting wait slot byte) = cond (eqb slot 0) (17 - wait) (49 - wait)
 abbrev Slow : ℕ → Next → Type 0
 Slow p n = 49 * length (numbers (n .event)) + progress (n .stage) ≤ p + 1
 
--- two choices by one test
-cond-both : {A B : Type 0} (P : A → B → Type 0) (b : Bool) {x y : A} {u v : B} → P x u → P y v → P (cond b x y) (cond b u v)
-cond-both P true p q = p
-cond-both P false p q = q
-
 taken-slow : (wait slot byte : ℕ) (d : Decision) → wait ≤ 1 → Slow (cond (eqb slot 0) (17 - wait) (49 - wait)) (taken slot byte d)
 unfolding taken
 taken-slow wait slot byte d h =
     cond-both Slow (eqb slot 0)
-    (cond-case (Slow (17 - wait)) (d .good && d .space) _ _ (omega arith) (omega arith))
-    (cond-case (Slow (49 - wait)) (leb slot 8) _ _
+    (λ e. cond-case (Slow (17 - wait)) (d .good && d .space) _ _ (omega arith) (omega arith))
+    (λ e. cond-case (Slow (49 - wait)) (leb slot 8) _ _
     (cond-case (Slow (49 - wait)) (not (d .good)) _ _ (omega arith) (rw (ne-eqb (slot + 1) 0 (λ e. omega arith)) (omega arith)))
     (cond-case (Slow (49 - wait)) (not (d .good)) _ _ (omega arith) (cond-case (Slow (49 - wait)) (d .space) _ _ (omega arith) (omega arith))))
 
@@ -50,11 +45,10 @@ next-slow Searching run d = cond-case (Slow 0) (eqb run 32 && d .space) _ _ (ome
 next-slow (Waiting wait slot byte) run d =
     cond-split (Slow (cond (eqb slot 0) (17 - wait) (49 - wait))) (eqb (wait - 1) 0) _ _
     (λ e. let z : wait - 1 ≡ 0 = eqb-true (wait - 1) 0 e in taken-slow wait slot byte d (omega arith))
-    (λ e. let nz : wait - 1 ≡ 0 → ⊥ = eqb-false (wait - 1) 0 e in less (eqb slot 0) (omega (arith, nz)))
-  where
-    less : (start : Bool) → 1 < wait → 49 * 0 + cond start (17 - (wait - 1)) (49 - (wait - 1)) ≤ cond start (17 - wait) (49 - wait) + 1
-    less true h = omega arith
-    less false h = omega arith
+    (λ e.
+    let nz : wait - 1 ≡ 0 → ⊥ = eqb-false (wait - 1) 0 e in
+    let h : 1 < wait = omega (arith, nz) in
+    cond-both (λ (p q : ℕ). 49 * 0 + p ≤ q + 1) (eqb slot 0) (λ z. omega arith) (λ z. omega arith))
 
 control-slow : (c : Control) (d : Decision) → 49 * length (reported c d) + progress (controlAfter c d .stage) ≤ progress (c .stage) + 1
 unfolding controlAfter reported

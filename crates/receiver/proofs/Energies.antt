@@ -3,7 +3,6 @@
 use mathlib.Core.Path.{_≡_, refl, sym, ap, ap₂, _∙_}
 use mathlib.Core.List.{List}
 use Prim.Native.Nat.{ℕ, _+_, _*_, _≤_, _<_, max}
-use native.Mathlib.Decide.{decLt}
 use native.Mathlib.Nat.{zero-add, add-comm}
 use native.Mathlib.Omega.{arith}
 use borrow.Author.Tests.{lt-ltb, le-ltb}
@@ -11,6 +10,7 @@ use lib.Dec.{ltb, leb}
 use lib.IntN.{ℤ, pos, negsuc, natAbs, _+ℤ_, _*ℤ_}
 use lib.ListN.{getD}
 use Rattle.integers.specs.Sums.{dot, sumTo}
+use Rattle.integers.proofs.Tests.{lt-or-le}
 use Rattle.integers.proofs.Sums.{sumTo-same, sumTo-dot, products}
 use Rattle.sine.specs.Sine.{S, C}
 use Rattle.sine.specs.Wave.{wave}
@@ -54,14 +54,10 @@ unfolding energy energyℕ
 energy-ℕ window t = ap₂ (λ (a b : ℤ). a +ℤ b) (square (inPhase window t)) (square (quadrature window t))
 
 decided-ℕ : (space mark : ℕ) → decided (pos space) (pos mark) ≡ record { good = leb level (max space mark); space = ltb mark space }
-decided-ℕ space mark = go (decLt space mark)
-  where
-    go : Dec (space < mark) → decided (pos space) (pos mark) ≡ record { good = leb level (max space mark); space = ltb mark space }
-    go (yes h) = let e : max space mark ≡ mark = omega arith in rw (lt-ltb space mark h, e)
-    go (no f) =
-        let h : mark ≤ space = omega arith in
-        let e : max space mark ≡ space = omega arith in
-        rw (le-ltb space mark h, e)
+decided-ℕ space mark =
+    lt-or-le space mark
+    (λ h. let e : max space mark ≡ mark = omega arith in rw (lt-ltb space mark h, e))
+    (λ h. let e : max space mark ≡ space = omega arith in rw (le-ltb space mark h, e))
 
 -- the decision by the orders of natural numbers
 pub decision-ℕ : (t : Tones) (window : List ℤ)

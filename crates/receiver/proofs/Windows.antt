@@ -4,12 +4,12 @@
 use mathlib.Core.Path.{_≡_, refl, sym, ap, _∙_}
 use mathlib.Core.List.{List, [], _∷_, _++_, append-assoc, append-nil}
 use Prim.Native.Nat.{ℕ, suc, _+_, _<_, _≤_, min}
-use native.Mathlib.Decide.{decLt}
 use native.Mathlib.Omega.{arith}
 use borrow.Author.Tests.{lt-ltb, le-ltb}
 use lib.IntN.{ℤ}
 use lib.ListN.{length, take, drop, length-append, length-drop, take-append-drop}
 use lib.Seq.{take-all, take-at, append-snoc, drop-append-le, drop-drop, take-append-le, length-take-le}
+use Rattle.integers.proofs.Tests.{lt-or-le}
 use Rattle.calls.specs.Runs.{after, gives}
 use Rattle.tones.specs.Bands.{tonesOf}
 use Rattle.receiver.specs.declared.Decision.{Decision}
@@ -47,15 +47,14 @@ module _ (decide : List ℤ → Decision) where
   -- the windows that begin in `old`, and those of the block xs
   pub decisions-seam : (old xs : List ℤ) (n : ℕ) → n ≡ min (length xs) 31
       → decisions decide (old ++ xs) ≡ decisions decide (old ++ take n xs) ++ decisions decide xs
-  decisions-seam old xs n e = go (decLt (length xs) 31)
-    where
-      go : Dec (length xs < 31) → decisions decide (old ++ xs) ≡ decisions decide (old ++ take n xs) ++ decisions decide xs
-      go (yes h) = rw (take-all n xs (omega arith), decisions-none xs (omega arith)) (sym (append-nil (decisions decide (old ++ xs))))
-      go (no f) =
-          ap (λ (l : List ℤ). decisions decide (old ++ l)) (sym (take-append-drop n xs))
-          ∙ ap (decisions decide) (sym (append-assoc old (take n xs) (drop n xs)))
-          ∙ decisions-cut old (take n xs) (drop n xs) (length-take-le n xs (omega arith) ∙ omega arith)
-          ∙ ap (λ (l : List ℤ). decisions decide (old ++ take n xs) ++ decisions decide l) (take-append-drop n xs)
+  decisions-seam old xs n e =
+      lt-or-le (length xs) 31
+      (λ h. rw (take-all n xs (omega arith), decisions-none xs (omega arith)) (sym (append-nil (decisions decide (old ++ xs)))))
+      (λ h.
+      ap (λ (l : List ℤ). decisions decide (old ++ l)) (sym (take-append-drop n xs))
+      ∙ ap (decisions decide) (sym (append-assoc old (take n xs) (drop n xs)))
+      ∙ decisions-cut old (take n xs) (drop n xs) (length-take-le n xs (omega arith) ∙ omega arith)
+      ∙ ap (λ (l : List ℤ). decisions decide (old ++ take n xs) ++ decisions decide l) (take-append-drop n xs))
 
   -- a sample enters a window
   decisions-entered : (window : List ℤ) (x : ℤ) (xs : List ℤ) → length window ≡ 32
