@@ -18,7 +18,8 @@ use Rattle.sheet.specs.Text.{bandLine, sampleLine, headOf, sheetOf}
 use Rattle.sheet.specs.Parse.{lineAfter, isStart, isHeaded, isSheet, bandIn, samplesOf}
 use Rattle.sheet.specs.Inverse.{ReadsAs, IsSheetOf, Inverse}
 use Rattle.sheet.specs.declared.Line.the-variants.{Start}
-use Rattle.sheet.proofs.Lines.{is-start, lines-read, lines-written}
+use Rattle.sheet.proofs.LinesRead.{lines-read}
+use Rattle.sheet.proofs.LinesWritten.{is-start, lines-written}
 
 -- ---- the head
 

@@ -1,5 +1,6 @@
 pub mod Lengths
-pub mod Lines
+pub mod LinesRead
+pub mod LinesWritten
 pub mod Inverse
 pub mod Calls
 pub mod Passes

@@ -3,26 +3,45 @@
 use mathlib.Core.Path.{_≡_, refl, sym, ap, _∙_}
 use mathlib.Core.Bool.{Bool, true, false, _&&_, and-assoc, and-true}
 use mathlib.Core.List.{List, [], _∷_, _++_}
-use Prim.Native.Nat.{ℕ, _+_, _<_, _≤_}
+use mathlib.Mathlib.Data.Bool.Basic.{and-elim-left, and-elim-right}
+use Prim.Native.Nat.{ℕ, _+_, _-_, _*_, _<_, _≤_}
 use native.Mathlib.Nat.{zero-add, add-zero}
 use native.Mathlib.Numerals.{add-one}
 use native.Mathlib.Omega.{arith}
-use lib.Dec.{eqb}
+use borrow.Author.Tests.{ltb-true}
+use lib.Dec.{ltb, eqb}
 use lib.IntN.{ℤ}
 use lib.ListN.{length, getD, drop, length-append, drop-of-length-le}
 use lib.Seq.{sets, drop-cons}
-use Rattle.integers.proofs.Tests.{cond-case}
+use Rattle.integers.proofs.Tests.{cond-split, cond-case}
 use Rattle.calls.specs.Runs.{after, gives}
 use Rattle.calls.proofs.Filling.{Filling, filling-start, filling-more, filling-end}
+use Rattle.text.specs.Numbers.{isDigit}
+use Rattle.text.proofs.Numbers.{digit-high}
 use Rattle.tones.specs.Samples.{areBetween, areSamples}
 use Rattle.tones.proofs.Samples.{samples-append}
 use Rattle.sheet.specs.Parse.{next, sampleOf, sampleAt, lineAfter, samplesIn, Small, seenNext, seenOf}
 use Rattle.sheet.specs.declared.Line.{Line}
-use Rattle.sheet.specs.declared.Line.the-variants.{Start}
+use Rattle.sheet.specs.declared.Line.the-variants.{Start, Minus, Zero, Number, Bad}
 use Rattle.sheet.specs.declared.Seen.{Seen}
-use Rattle.sheet.proofs.Lines.{small-next}
 
 -- ---- one byte
+
+-- a number stays small
+small-next : (line : Line) (byte : ℕ) → Small (next line byte)
+unfolding next
+small-next Start b =
+    cond-case Small (eqb b 45) Minus _ tt
+    (cond-case Small (eqb b 48) Zero _ tt (cond-split Small (isDigit b) (Number false (b - 48)) Bad (λ d. omega (arith, digit-high b d)) (λ d. tt)))
+small-next Minus b =
+    cond-case Small (eqb b 48) Bad _ tt (cond-split Small (isDigit b) (Number true (b - 48)) Bad (λ d. omega (arith, digit-high b d)) (λ d. tt))
+small-next Zero b = cond-case Small (eqb b 10) Start Bad tt tt
+small-next (Number m n) b =
+    cond-case Small (eqb b 10) Start _ tt
+    (cond-split Small (isDigit b && ltb n 1000) (Number m (n * 10 + (b - 48))) Bad
+    (λ d. omega (arith, digit-high b (and-elim-left (isDigit b) (ltb n 1000) d), ltb-true n 1000 (and-elim-right (isDigit b) (ltb n 1000) d)))
+    (λ d. tt))
+small-next Bad b = tt
 
 sample-few : (line : Line) (b : ℕ) → length (sampleAt line b) ≤ 1
 sample-few line b = cond-case (λ (zs : List ℤ). length zs ≤ 1) (eqb b 10) (sampleOf line ∷ []) [] (omega arith) (omega arith)
