@@ -1,20 +1,19 @@
--- The form of a sheet, test by test; and reading is the inverse of writing: what was written is read, and no other text is taken.
+-- The head of a sheet; and reading is the inverse of writing: what was written is read, and no other text is taken.
 -- Assumes nothing.
-use mathlib.Core.Path.{_≡_, refl, sym, ap, ap₂, _∙_}
-use mathlib.Core.Bool.{Bool, true, false, _&&_}
-use mathlib.Core.List.{List, _∷_, _++_}
+use mathlib.Core.Path.{_≡_, sym, ap, _∙_}
+use mathlib.Core.Bool.{true, false}
+use mathlib.Core.List.{List, _++_}
 use mathlib.Mathlib.Data.Bool.Basic.{and-elim-left, and-elim-right, and-intro}
-use Prim.Native.Nat.{ℕ, _+_, _-_, _<_, _≤_}
+use Prim.Native.Nat.{ℕ, _+_, _<_, _≤_}
 use native.Mathlib.Omega.{arith}
 use lib.IntN.{ℤ, natAbs}
-use lib.ListN.{length, getD, take, drop, length-drop}
-use lib.Seq.{drop-drop, drop-cons, take-all}
+use lib.ListN.{length, getD, drop}
 use Rattle.integers.specs.All.{All}
 use Rattle.text.specs.Numbers.{isDigit}
 use Rattle.text.specs.Bytes.{startsWith}
 use Rattle.text.proofs.Numbers.{digit-low, digit-high, is-digit}
-use Rattle.text.proofs.Bytes.{starts-cut, starts-long}
-use Rattle.sheet.specs.Text.{bandLine, sampleLine, headOf, sheetOf}
+use Rattle.text.proofs.Bytes.{starts-cut, starts-append, starts-long, starts-short}
+use Rattle.sheet.specs.Text.{linesOf, headOf, sheetOf}
 use Rattle.sheet.specs.Parse.{lineAfter, isStart, isHeaded, isSheet, bandIn, samplesOf}
 use Rattle.sheet.specs.Inverse.{ReadsAs, IsSheetOf, Inverse}
 use Rattle.sheet.specs.declared.Line.the-variants.{Start}
@@ -28,83 +27,39 @@ pub record Headed (t : List ℕ) : Type 0 where
   pub long : 14 ≤ length t
   pub low : 48 ≤ getD t 5 0
   pub digit : bandIn t < 10
-  pub cut : t ≡ headOf (bandIn t) ++ drop 14 t
+  pub cut : t ≡ headOf (48 + bandIn t) ++ drop 14 t
 
 pub headed : (t : List ℕ) → isHeaded t ≡ true → Headed t
 unfolding isHeaded headOf
 headed t h =
-    let names = and-elim-left (startsWith bandLine t && startsWith (10 ∷ sampleLine) (drop 6 t)) (isDigit (getD t 5 0)) h in
-    let d = and-elim-right (startsWith bandLine t && startsWith (10 ∷ sampleLine) (drop 6 t)) (isDigit (getD t 5 0)) h in
-    let first = and-elim-left (startsWith bandLine t) (startsWith (10 ∷ sampleLine) (drop 6 t)) names in
-    let third = and-elim-right (startsWith bandLine t) (startsWith (10 ∷ sampleLine) (drop 6 t)) names in
-    let l : 14 ≤ length t = omega (arith, starts-long (10 ∷ sampleLine) (drop 6 t) third, length-drop 6 t) in
-    let e : getD t 5 0 ≡ 48 + bandIn t = omega (arith, digit-low (getD t 5 0) d) in
+    let x : ℕ = getD t 5 0 in
+    let front = and-elim-left (startsWith (headOf x) t) (isDigit x) h in
+    let d = and-elim-right (startsWith (headOf x) t) (isDigit x) h in
+    let e : x ≡ 48 + bandIn t = omega (arith, digit-low x d) in
     record {
-      long = l;
-      low = digit-low (getD t 5 0) d;
-      digit = omega (arith, digit-high (getD t 5 0) d);
-      cut =
-          starts-cut bandLine t first
-          ∙ ap (λ (r : List ℕ). bandLine ++ r)
-          (drop-cons t 5 0 (omega arith)
-          ∙ ap₂ (λ (x : ℕ) (r : List ℕ). x ∷ r) e
-          (starts-cut (10 ∷ sampleLine) (drop 6 t) third ∙ ap (λ (r : List ℕ). (10 ∷ sampleLine) ++ r) (drop-drop 8 6 t)));
+      long = starts-long (headOf x) t front;
+      low = digit-low x d;
+      digit = omega (arith, digit-high x d);
+      cut = starts-cut (headOf x) t front ∙ ap (λ (y : ℕ). headOf y ++ drop 14 t) e;
     }
 
 pub headless : (t : List ℕ) → length t < 14 → false ≡ isHeaded t
-headless t h = go (isHeaded t) refl
-  where
-    go : (b : Bool) → isHeaded t ≡ b → false ≡ isHeaded t
-    go true e = absurd (omega (arith, headed t e .long))
-    go false e = sym e
+unfolding isHeaded headOf
+headless t h = rw (starts-short (headOf (getD t 5 0)) t h)
 
--- the tests one by one
-module _ (t : List ℕ) where
-  pub no-first : startsWith bandLine t ≡ false → false ≡ isHeaded t
-  unfolding isHeaded
-  no-first a = rw a
-
-  module _ (a : startsWith bandLine t ≡ true) where
-    pub no-third : startsWith (10 ∷ sampleLine) (drop 6 t) ≡ false → false ≡ isHeaded t
-    unfolding isHeaded
-    no-third b = rw (a, b)
-
-    pub a-digit : startsWith (10 ∷ sampleLine) (drop 6 t) ≡ true → isDigit (getD t 5 0) ≡ isHeaded t
-    unfolding isHeaded
-    a-digit b = rw (a, b)
-
--- ---- the form of a whole text
-
--- a text's part from a place to its end
-pub part-to-end : (k : ℕ) (t : List ℕ) → take (length t - k) (drop k t) ≡ drop k t
-part-to-end k t = take-all (length t - k) (drop k t) (omega (arith, length-drop k t))
-
-module _ (t : List ℕ) where
-  pub no-head : isHeaded t ≡ false → isSheet t ≡ false
-  unfolding isSheet
-  no-head h = rw h
-
-  module _ (h : isHeaded t ≡ true) where
-    pub no-end : isStart (lineAfter Start (drop 14 t)) ≡ false → isSheet t ≡ false
-    unfolding isSheet
-    no-end e = rw (h, e)
-
-    pub whole-sheet : isStart (lineAfter Start (drop 14 t)) ≡ true → isSheet t ≡ true
-    unfolding isSheet
-    whole-sheet e = rw (h, e)
-
-  pub sheet-headed : isSheet t ≡ true → Headed t
-  unfolding isSheet
-  sheet-headed h = headed t (and-elim-left (isHeaded t) (isStart (lineAfter Start (drop 14 t))) h)
+pub sheet-headed : (t : List ℕ) → isSheet t ≡ true → Headed t
+unfolding isSheet
+sheet-headed t h = headed t (and-elim-left (isHeaded t) (isStart (lineAfter Start (drop 14 t))) h)
 
 -- ---- both ways
 
 sheet-taken : (band : ℕ) (zs : List ℤ) → band < 10 → All (λ z. natAbs z < 10000) zs → ReadsAs (sheetOf band zs) band zs
-unfolding isSheet isHeaded sheetOf headOf startsWith isStart
+unfolding isSheet isHeaded sheetOf headOf isStart
 sheet-taken band zs d four =
     let read = lines-read zs four in
+    let head = and-intro (starts-append (headOf (48 + band)) (linesOf zs)) (is-digit (48 + band) (omega arith) (omega arith)) in
     record {
-      taken = and-intro (is-digit (48 + band) (omega arith) (omega arith)) (ap isStart (read .0));
+      taken = and-intro head (ap isStart (read .0));
       band-read = omega arith;
       samples-read = read .1;
     }
@@ -115,7 +70,7 @@ taken-sheet t h =
     let head = sheet-headed t h in
     let end = is-start (lineAfter Start (drop 14 t)) (and-elim-right (isHeaded t) (isStart (lineAfter Start (drop 14 t))) h) in
     let lines = lines-written (drop 14 t) end in
-    record { written = head .cut ∙ ap (λ (r : List ℕ). headOf (bandIn t) ++ r) (lines .0); digit = head .digit; four = lines .1 }
+    record { written = head .cut ∙ ap (λ (r : List ℕ). headOf (48 + bandIn t) ++ r) (lines .0); digit = head .digit; four = lines .1 }
 
 pub inverse : Inverse
 inverse t band zs = (forth, back)

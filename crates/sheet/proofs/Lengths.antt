@@ -1,6 +1,6 @@
 -- The lengths of a sheet's parts.
 -- Assumes nothing.
-use mathlib.Core.Path.{_≡_, refl, ap, _∙_}
+use mathlib.Core.Path.{_≡_}
 use mathlib.Core.List.{List, [], _∷_}
 use Prim.Native.Nat.{ℕ, suc, _+_, _*_, _<_, _≤_}
 use native.Mathlib.Omega.{arith}
@@ -11,13 +11,9 @@ use Rattle.text.specs.Numbers.{decimal}
 use Rattle.text.proofs.Numbers.{length-decimal}
 use Rattle.sheet.specs.Text.{lineOf, linesOf, headOf, sheetOf}
 
-pub length-head : (band : ℕ) → length (headOf band) ≡ 14
-unfolding headOf
-length-head band = refl
-
 pub length-sheet : (band : ℕ) (zs : List ℤ) → length (sheetOf band zs) ≡ 14 + length (linesOf zs)
-unfolding sheetOf
-length-sheet band zs = length-append (headOf band) (linesOf zs) ∙ ap (λ (n : ℕ). n + length (linesOf zs)) (length-head band)
+unfolding sheetOf headOf
+length-sheet band zs = length-append (headOf (48 + band)) (linesOf zs)
 
 -- the line of a sample: a minus, four digits and the line feed at most
 length-line : (z : ℤ) → natAbs z < 10000 → length (lineOf z) ≤ 6

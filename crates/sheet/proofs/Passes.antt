@@ -20,7 +20,7 @@ use Rattle.text.specs.Numbers.{isDigit}
 use Rattle.text.proofs.Numbers.{digit-high}
 use Rattle.tones.specs.Samples.{areBetween, areSamples}
 use Rattle.tones.proofs.Samples.{samples-append}
-use Rattle.sheet.specs.Parse.{next, sampleOf, sampleAt, lineAfter, samplesIn, Small, seenNext, seenOf}
+use Rattle.sheet.specs.Parse.{next, sampleOf, sampleAt, lineAfter, samplesIn, samplesOf, Small, seenNext, seenOf}
 use Rattle.sheet.specs.declared.Line.{Line}
 use Rattle.sheet.specs.declared.Line.the-variants.{Start, Minus, Zero, Number, Bad}
 use Rattle.sheet.specs.declared.Seen.{Seen}
@@ -73,18 +73,16 @@ module _ (t : List ℕ) (i : ℕ) (line : Line) where
 
 -- ---- the first pass
 
--- the bytes before place i are looked at
+-- the bytes of the text t before place i are looked at
 pub record Looked (t : List ℕ) (s : Seen) (i : ℕ) : Type 0 where
-  pub inside : i ≤ length t
   pub small : Small (s .line)
   pub few : s .count ≤ i
-  pub place : lineAfter (s .line) (drop i t) ≡ lineAfter Start t
-  pub counted : s .count + length (samplesIn (s .line) (drop i t)) ≡ length (samplesIn Start t)
-  pub tested : (s .sound && areSamples (samplesIn (s .line) (drop i t))) ≡ areSamples (samplesIn Start t)
+  pub place : lineAfter (s .line) (drop i t) ≡ lineAfter Start (drop 14 t)
+  pub counted : s .count + length (samplesIn (s .line) (drop i t)) ≡ length (samplesOf t)
+  pub tested : (s .sound && areSamples (samplesIn (s .line) (drop i t))) ≡ areSamples (samplesOf t)
 
-pub looked-start : (t : List ℕ) → Looked t (record { line = Start; count = 0; sound = true }) 0
-looked-start t =
-    record { inside = omega arith; small = tt; few = omega arith; place = refl; counted = zero-add (length (samplesIn Start t)); tested = refl }
+pub looked-start : (t : List ℕ) → Looked t (record { line = Start; count = 0; sound = true }) 14
+looked-start t = record { small = tt; few = omega arith; place = refl; counted = zero-add (length (samplesOf t)); tested = refl }
 
 module _ (t : List ℕ) (s : Seen) (i : ℕ) (p : Looked t s i) where
   abbrev b : ℕ
@@ -94,7 +92,6 @@ module _ (t : List ℕ) (s : Seen) (i : ℕ) (p : Looked t s i) where
   looked-more h =
       let rest : List ℤ = samplesIn (next (s .line) b) (drop (i + 1) t) in
       record {
-        inside = omega arith;
         small = small-next (s .line) b;
         few = omega (arith, p .few, sample-few (s .line) b);
         place = sym (line-next t i (s .line) h) ∙ p .place;
@@ -108,9 +105,9 @@ module _ (t : List ℕ) (s : Seen) (i : ℕ) (p : Looked t s i) where
   pub looked-all : length t ≤ i → s ≡ seenOf t
   unfolding areBetween
   looked-all h =
-      let line : s .line ≡ lineAfter Start t = sym (line-end t i (s .line) h) ∙ p .place in
-      let count : s .count ≡ length (samplesIn Start t) = omega (arith, ap length (samples-end t i (s .line) h), p .counted) in
-      let sound : s .sound ≡ areSamples (samplesIn Start t) =
+      let line : s .line ≡ lineAfter Start (drop 14 t) = sym (line-end t i (s .line) h) ∙ p .place in
+      let count : s .count ≡ length (samplesOf t) = omega (arith, ap length (samples-end t i (s .line) h), p .counted) in
+      let sound : s .sound ≡ areSamples (samplesOf t) =
       sym (ap (λ (zs : List ℤ). s .sound && areSamples zs) (samples-end t i (s .line) h) ∙ and-true (s .sound)) ∙ p .tested in
       λ j. record { line = line j; count = count j; sound = sound j }
 
@@ -128,35 +125,27 @@ module _ (s : Seen) (b : ℕ) (line : Line) (e : line ≡ next (s .line) b) wher
 
 -- the samples of the bytes before place i are in the buffer, which was `lent` and is `now`
 pub record Filled (t : List ℕ) (lent now : List ℤ) (line : Line) (count i : ℕ) : Type 0 where
-  pub inside : i ≤ length t
   pub small : Small line
-  pub counted : count + length (samplesIn line (drop i t)) ≡ length (samplesIn Start t)
-  pub filling : Filling lent 0 (samplesIn Start t) now count (samplesIn line (drop i t))
+  pub counted : count + length (samplesIn line (drop i t)) ≡ length (samplesOf t)
+  pub filling : Filling lent 0 (samplesOf t) now count (samplesIn line (drop i t))
 
-pub filled-start : (t : List ℕ) (lent : List ℤ) → Filled t lent lent Start 0 0
-filled-start t lent =
-    record {
-      inside = omega arith;
-      small = tt;
-      counted = zero-add (length (samplesIn Start t));
-      filling = filling-start lent 0 (samplesIn Start t);
-    }
+pub filled-start : (t : List ℕ) (lent : List ℤ) → Filled t lent lent Start 0 14
+filled-start t lent = record { small = tt; counted = zero-add (length (samplesOf t)); filling = filling-start lent 0 (samplesOf t) }
 
 module _ (t : List ℕ) (lent now : List ℤ) (line : Line) (count i : ℕ) (p : Filled t lent now line count i) where
   abbrev c : ℕ
   c = getD t i 0
 
-  pub filled-room : i < length t → length (samplesIn Start t) ≤ length lent → count + length (sampleAt line c) ≤ length now
+  pub filled-room : i < length t → length (samplesOf t) ≤ length lent → count + length (sampleAt line c) ≤ length now
   filled-room h room = omega (arith, count-next t i line h, p .counted, p .filling .long)
 
   pub filled-more : i < length t → Filled t lent (sets now count (sampleAt line c)) (next line c) (count + length (sampleAt line c)) (i + 1)
   filled-more h =
       record {
-        inside = omega arith;
         small = small-next line c;
         counted = omega (arith, count-next t i line h, p .counted);
         filling = filling-more (sampleAt line c) (samplesIn (next line c) (drop (i + 1) t)) (rw (samples-next t i line h) at (p .filling));
       }
 
-  pub filled-all : length t ≤ i → now ≡ sets lent 0 (samplesIn Start t)
-  filled-all h = filling-end (rw (samples-end t i line h) at (p .filling))
+  pub filled-all : length t ≤ i → (count ≡ length (samplesOf t)) × (now ≡ sets lent 0 (samplesOf t))
+  filled-all h = (omega (arith, ap length (samples-end t i line h), p .counted), filling-end (rw (samples-end t i line h) at (p .filling)))

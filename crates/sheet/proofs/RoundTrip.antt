@@ -1,7 +1,7 @@
 -- A sheet that was written is accepted by a reading, as the band and the samples that were written. From `Inverse`, and from what the
 -- calls' numbers say.
 -- Assumes nothing.
-use mathlib.Core.Path.{_≡_, refl, sym, _∙_}
+use mathlib.Core.Path.{_≡_, refl, _∙_}
 use mathlib.Core.List.{List, [], _∷_}
 use Prim.Native.Nat.{ℕ, suc, _<_, _≤_}
 use native.Mathlib.Omega.{arith}
@@ -32,7 +32,7 @@ module _ (band : ℕ) (zs : List ℤ) (room : ℕ) (w : Writable band zs room) w
   -- into as many places as there are samples, or more
   pub read-written : (places : ℕ) → length zs ≤ places → readNumber (sheetOf band zs) places ≡ 0
   read-written places h =
-      sym (some-sheet (sheetOf band zs) places (w .short) (written-read .taken))
+      some-sheet (sheetOf band zs) places (w .short) (written-read .taken)
       ∙ rw (
         written-read .band-read,
         written-read .samples-read,

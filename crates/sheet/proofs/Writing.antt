@@ -88,6 +88,6 @@ module _ (zs : List ℤ) (i : ℕ) where
 -- ---- the whole sheet
 
 pub sheet-filled : (band : ℕ) (zs : List ℤ) (lent : List ℕ) → length (sheetOf band zs) ≤ length lent
-    → sets (sets lent 0 (headOf band)) 14 (linesOf zs) ≡ sheetOf band zs ++ drop (length (sheetOf band zs)) lent
+    → sets (sets lent 0 (headOf (48 + band))) 14 (linesOf zs) ≡ sheetOf band zs ++ drop (length (sheetOf band zs)) lent
 unfolding sheetOf headOf
-sheet-filled band zs lent h = sym (sets-append lent 0 (headOf band) (linesOf zs)) ∙ sets-front (sheetOf band zs) lent h
+sheet-filled band zs lent h = sym (sets-append lent 0 (headOf (48 + band)) (linesOf zs)) ∙ sets-front (sheetOf band zs) lent h

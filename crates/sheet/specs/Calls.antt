@@ -10,7 +10,6 @@ use lib.ListN.{length}
 use Rattle.calls.specs.Outcome.{Outcome, refused, accepted}
 use Rattle.tones.specs.Bands.{isBand}
 use Rattle.tones.specs.Samples.{areSamples}
-use Rattle.sheet.specs.declared.Reading.{Reading}
 use Rattle.sheet.specs.Text.{sheetOf}
 use Rattle.sheet.specs.Parse.{isSheet, bandIn, samplesOf}
 
@@ -35,14 +34,6 @@ unfoldable pub readOf : List ℕ → List ℤ → Outcome ℕ ℤ
 readOf text lent =
     let n : ℕ = readNumber text (length lent) in
     cond (eqb n 0) (accepted (bandIn text) (samplesOf text) lent) (refused n 0 lent)
-
--- the same without the buffer, for the code that judges before it writes
-unfoldable pub readingOf : List ℕ → ℕ → Reading
-readingOf text room =
-    let n : ℕ = readNumber text room in
-    cond (eqb n 0)
-    (record { band = bandIn text; answer = record { number = 0; count = length (samplesOf text) } })
-    (record { band = 0; answer = record { number = n; count = 0 } })
 
 -- ---- writing; there is no state
 

@@ -9,7 +9,7 @@ use lib.ListN.{length, getD, drop}
 use Rattle.calls.specs.Runs.{after, gives}
 use Rattle.text.specs.Numbers.{isDigit}
 use Rattle.text.specs.Bytes.{startsWith}
-use Rattle.sheet.specs.Text.{bandLine, sampleLine}
+use Rattle.sheet.specs.Text.{headOf}
 use Rattle.tones.specs.Samples.{areSamples}
 use Rattle.sheet.specs.declared.Line.{Line}
 use Rattle.sheet.specs.declared.Line.the-variants.{Start, Minus, Zero, Number, Bad}
@@ -54,11 +54,11 @@ isStart Zero = false
 isStart (Number negative size) = false
 isStart Bad = false
 
--- ---- a whole text: the line `band` is bytes 0 to 4, the digit byte 5, and the samples begin at byte 14
+-- ---- a whole text: the digit is byte 5, and the samples begin at byte 14
 
 -- the three lines above the samples, with any digit
 unfoldable pub isHeaded : List ℕ → Bool
-isHeaded text = startsWith bandLine text && startsWith (10 ∷ sampleLine) (drop 6 text) && isDigit (getD text 5 0)
+isHeaded text = startsWith (headOf (getD text 5 0)) text && isDigit (getD text 5 0)
 
 -- the text has the form of a sheet
 unfoldable pub isSheet : List ℕ → Bool
@@ -81,7 +81,7 @@ Small Zero = Unit
 Small (Number negative size) = size < 10000
 Small Bad = Unit
 
--- a first look at the lines: where it stands, how many samples there are, and whether all are in range
+-- a first look at the lines, byte by byte: where it stands, how many samples there are, and whether all are in range
 abbrev pub seenNext : Seen → ℕ → Seen
 seenNext seen byte =
     record {
@@ -91,5 +91,5 @@ seenNext seen byte =
     }
 
 abbrev pub seenOf : List ℕ → Seen
-seenOf lines =
-    record { line = lineAfter Start lines; count = length (samplesIn Start lines); sound = areSamples (samplesIn Start lines) }
+seenOf text =
+    record { line = lineAfter Start (drop 14 text); count = length (samplesOf text); sound = areSamples (samplesOf text) }

@@ -23,9 +23,10 @@ bandLine = 98 ∷ 97 ∷ 110 ∷ 100 ∷ 10 ∷ []
 abbrev pub sampleLine : List ℕ
 sampleLine = 115 ∷ 97 ∷ 109 ∷ 112 ∷ 108 ∷ 101 ∷ 10 ∷ []
 
--- the three lines above the samples, for a band of one digit
+-- the three lines above the samples, 14 bytes; the second is the band's digit
 unfoldable pub headOf : ℕ → List ℕ
-headOf band = bandLine ++ ((48 + band) ∷ 10 ∷ sampleLine)
+headOf digit = bandLine ++ (digit ∷ 10 ∷ sampleLine)
 
+-- the sheet of a band of one digit; 48 is `0`
 unfoldable pub sheetOf : ℕ → List ℤ → List ℕ
-sheetOf band samples = headOf band ++ linesOf samples
+sheetOf band samples = headOf (48 + band) ++ linesOf samples

@@ -2,6 +2,7 @@
 // to no buffer.
 ghost use mathlib.Core.Path.{_≡_};
 ghost use Rattle.calls.specs.Outcome.{outcome};
+ghost use Rattle.sheet.specs.Text.{headOf};
 ghost use Rattle.sheet.specs.Calls.{readOf, writeOf};
 
 mod parse;
@@ -38,14 +39,18 @@ pub struct Reading {
 pub fn read(text: &[u8], out: &mut [i16]) -> Reading
     ensures { λ r. ⌜ outcome (r .answer) (r .band) (now (out .exit)) ≡ readOf (now (text .entry)) (now (out .entry)) ⌝ }
 {
-    let judged = reader::judge(text, out.len());
-    let answer = judged.answer;
-    if answer.number != 0 {
-        return judged;
+    let number = reader::refusal(text, out.len());
+    if 0 < number {
+        return Reading {
+            band: 0,
+            answer: Answer { number, count: 0 },
+        };
     }
-    // Behind the 14 bytes of the first three lines.
-    reader::fill(&text[14..], out);
-    judged
+    let count = reader::fill(text, out);
+    Reading {
+        band: text[5] - 48,
+        answer: Answer { number: 0, count },
+    }
 }
 
 // Writes the sheet of a band and samples to the buffer's front.
@@ -56,7 +61,17 @@ pub fn write(band: u8, samples: &[i16], out: &mut [u8]) -> Answer
     if number != 0 {
         return Answer { number, count: 0 };
     }
-    writer::put_head(out, band);
+    let head = head_of(48 + band);
+    text::put(out, 0, &head);
     let count = writer::put_lines(out, samples);
     Answer { number: 0, count }
+}
+
+// The three lines above the samples.
+fn head_of(digit: u8) -> [u8; 14]
+    ensures { λ r. ⌜ r ≡ headOf digit ⌝ }
+{
+    let mut head = *b"band\n0\nsample\n";
+    head[5] = digit;
+    head
 }

@@ -3,51 +3,29 @@ ghost use mathlib.Core.Path.{_≡_};
 ghost use Prim.Native.Nat.{_+_, _≤_, _<_};
 ghost use lib.ListN.{length};
 ghost use lib.Seq.{sets};
-ghost use Rattle.sheet.specs.declared.Line.the-variants.{Start};
-ghost use Rattle.sheet.specs.Parse.{sampleAt, samplesIn, isHeaded, Small, seenNext, seenOf};
-ghost use Rattle.sheet.specs.Calls.{samplesNumber, readingOf};
+ghost use Rattle.sheet.specs.Parse.{sampleAt, isHeaded, samplesOf, Small, seenNext, seenOf};
+ghost use Rattle.sheet.specs.Calls.{samplesNumber, readNumber};
 use super::Line;
-use super::Reading;
 use super::Seen;
+use super::head_of;
 use super::parse;
-use calls::Answer;
 
-// What reading a text into `room` places answers.
-pub(crate) fn judge(text: &[u8], room: usize) -> Reading
-    ensures { λ r. ⌜ r ≡ readingOf (now (text .entry)) room ⌝ }
+// The number of the first reason to refuse a reading into `room` places, or 0.
+pub(crate) fn refusal(text: &[u8], room: usize) -> u8
+    ensures { λ r. ⌜ r ≡ readNumber (now (text .entry)) room ⌝ }
 {
     if 65536 < text.len() {
-        return refused(6);
+        return 6;
     }
     if !is_headed(text) {
-        return refused(7);
+        return 7;
     }
-    // Behind the 14 bytes of the first three lines.
-    let seen = look(&text[14..]);
+    let seen = look(text);
     let line = seen.line;
     if !parse::is_start(line) {
-        return refused(7);
+        return 7;
     }
-    let band = text[5] - 48;
-    let count = seen.count;
-    let number = samples_number(band, count, seen.sound, room);
-    if number != 0 {
-        return refused(number);
-    }
-    Reading {
-        band,
-        answer: Answer { number: 0, count },
-    }
-}
-
-// Band 0 and count 0 beside the number of a refusal.
-fn refused(number: u8) -> Reading
-    ensures { λ r. ⌜ r ≡ record { band = 0; answer = record { number = number; count = 0 } } ⌝ }
-{
-    Reading {
-        band: 0,
-        answer: Answer { number, count: 0 },
-    }
+    samples_number(text[5] - 48, seen.count, seen.sound, room)
 }
 
 // The number for a text that has the form of a sheet.
@@ -76,28 +54,27 @@ fn is_headed(text: &[u8]) -> bool
     if text.len() < 14 {
         return false;
     }
-    if !text::starts_with(text, b"band\n") {
+    let digit = text[5];
+    let head = head_of(digit);
+    if !text::starts_with(text, &head) {
         return false;
     }
-    if !text::starts_with(&text[6..], b"\nsample\n") {
-        return false;
-    }
-    text::is_digit(text[5])
+    text::is_digit(digit)
 }
 
-// The first pass over the lines: what a refusal depends on.
-fn look(lines: &[u8]) -> Seen
-    requires { ⌜ length (now lines) ≤ 65536 ⌝ }
-    ensures { λ r. ⌜ r ≡ seenOf (now (lines .entry)) ⌝ }
+// The first pass over the lines behind the first three: what a refusal depends on.
+fn look(text: &[u8]) -> Seen
+    requires { ⌜ length (now text) ≤ 65536 ⌝ }
+    ensures { λ r. ⌜ r ≡ seenOf (now (text .entry)) ⌝ }
 {
     let mut seen = Seen {
         line: Line::Start,
         count: 0,
         sound: true,
     };
-    let mut i: usize = 0;
-    while i < lines.len() {
-        seen = look_on(seen, lines[i]);
+    let mut i: usize = 14;
+    while i < text.len() {
+        seen = look_on(seen, text[i]);
         i += 1;
     }
     seen
@@ -127,20 +104,22 @@ fn look_on(seen: Seen, byte: u8) -> Seen
     }
 }
 
-// Puts the samples of the lines at the buffer's front.
-pub(crate) fn fill(lines: &[u8], out: &mut [i16])
-    requires { ⌜ length (samplesIn Start (now lines)) ≤ length (now out) ⌝ }
-    ensures { λ r. ⌜ now (out .exit) ≡ sets (now (out .entry)) 0 (samplesIn Start (now (lines .entry))) ⌝ }
+// The second pass: puts the samples at the buffer's front, and gives their count.
+pub(crate) fn fill(text: &[u8], out: &mut [i16]) -> usize
+    requires { ⌜ length (samplesOf (now text)) ≤ length (now out) ⌝ }
+    ensures count { λ r. ⌜ r ≡ length (samplesOf (now (text .entry))) ⌝ }
+    ensures lent { λ r. ⌜ now (out .exit) ≡ sets (now (out .entry)) 0 (samplesOf (now (text .entry))) ⌝ }
 {
     let mut line = Line::Start;
     let mut count: usize = 0;
-    let mut i: usize = 0;
-    while i < lines.len() {
-        let byte = lines[i];
+    let mut i: usize = 14;
+    while i < text.len() {
+        let byte = text[i];
         count = put_sample(out, count, line, byte);
         line = parse::advance(line, byte);
         i += 1;
     }
+    count
 }
 
 // Puts the sample of a line that this byte ends, and gives the next place.

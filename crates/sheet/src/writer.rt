@@ -1,11 +1,11 @@
 // Writing: what a band and samples are refused with, and the lines of those that are not.
 ghost use mathlib.Core.Path.{_≡_};
 ghost use mathlib.Core.List.{[], _∷_, _++_};
-ghost use Prim.Native.Nat.{_+_, _≤_, _<_};
+ghost use Prim.Native.Nat.{_+_, _≤_};
 ghost use lib.ListN.{length};
 ghost use lib.Seq.{sets};
 ghost use Rattle.text.specs.Numbers.{decimal};
-ghost use Rattle.sheet.specs.Text.{lineOf, linesOf, headOf};
+ghost use Rattle.sheet.specs.Text.{lineOf, linesOf};
 ghost use Rattle.sheet.specs.Calls.{writeNumber};
 
 // The number of the first reason to refuse, or 0.
@@ -31,18 +31,7 @@ pub(crate) fn refusal(band: u8, samples: &[i16], room: usize) -> u8
     0
 }
 
-// The three lines above the samples.
-pub(crate) fn put_head(out: &mut [u8], band: u8)
-    requires { ⌜ band < 10 ⌝ }
-    ensures { λ r. ⌜ now (out .exit) ≡ sets (now (out .entry)) 0 (headOf band) ⌝ }
-{
-    text::put(out, 0, b"band\n");
-    let digit = [48 + band, 10];
-    text::put(out, 5, &digit);
-    text::put(out, 7, b"sample\n");
-}
-
-// A line for each sample, behind the three. Gives the length of the whole sheet.
+// A line for each sample, behind the three above them. Gives the length of the whole sheet.
 pub(crate) fn put_lines(out: &mut [u8], samples: &[i16]) -> usize
     requires { ⌜ 14 + length (linesOf (now samples)) ≤ 65536 ⌝ }
     ensures count { λ r. ⌜ r ≡ 14 + length (linesOf (now (samples .entry))) ⌝ }

@@ -1,59 +1,53 @@
 -- `sheet::read` meets its contract.
 -- Assumes nothing.
-use mathlib.Core.Path.{_≡_, sym, ap, _∙_}
+use mathlib.Core.Path.{_≡_, sym, _∙_}
 use mathlib.Core.List.{List}
 use Prim.Native.Nat.{ℕ}
+use native.Mathlib.Omega.{arith}
 use borrow.Author.Needs.{needs}
 use lib.IntN.{ℤ}
 use lib.ListN.{length}
-use lib.Seq.{sets}
 use Rattle.integers.proofs.Lists.{sets-front}
 use Rattle.sheet.specs.Calls.{readNumber}
-use Rattle.sheet.specs.Parse.{samplesIn, samplesOf}
-use Rattle.sheet.specs.declared.Line.the-variants.{Start}
-use Rattle.sheet.specs.declared.Reading.{Reading}
-use Rattle.sheet.proofs.Calls.{Readable, readable, reading-number, read-refused, read-accepted}
-use Rattle.sheet.proofs.Inverse.{sheet-headed, part-to-end}
+use Rattle.sheet.specs.Parse.{bandIn, samplesOf}
+use Rattle.sheet.proofs.Calls.{Readable, readable, read-refused, read-accepted}
+use Rattle.sheet.proofs.Inverse.{Headed, sheet-headed}
 use Rattle.sheet.proofs.read.Statement.{statement}
 use Rattle.sheet.proofs.read.Tie as tie
 
-module _ (c : tie.After-judge) where
-  abbrev text : List ℕ
-  text = c .before .before .args .text .now
-
-  abbrev lent : List ℤ
-  lent = c .before .before .args .out .now
-
-  number : c .judge .result .answer .number ≡ readNumber text (length lent)
-  number = ap (λ (r : Reading). r .answer .number) (c .judge .ensures) ∙ reading-number text (length lent)
-
 -- nothing is refused
 module _ (c : tie.Else1) where
-  none : readNumber (text (c .before .before .before)) (length (lent (c .before .before .before))) ≡ 0
-  none = sym (number (c .before .before .before)) ∙ c .if1 .left
+  abbrev text : List ℕ
+  text = c .before .before .before .args .text .now
 
-  can : Readable (text (c .before .before .before)) (length (lent (c .before .before .before)))
-  can = readable (text (c .before .before .before)) (length (lent (c .before .before .before))) none
+  abbrev lent : List ℤ
+  lent = c .before .before .before .args .out .now
 
-judge-requires : tie.Need-judge-requires
-judge-requires c κs = tt
+  none : readNumber text (length lent) ≡ 0
+  none = sym (c .before .refusal .ensures) ∙ omega arith
+
+  can : Readable text (length lent)
+  can = readable text (length lent) none
+
+  has-head : Headed text
+  has-head = sheet-headed text (can .form)
+
+refusal-requires : tie.Need-refusal-requires
+refusal-requires c κs = tt
 
 returns : tie.Need-returns
 returns c =
-    let j = c .before .before .before in
-    rw (j .judge .ensures) (read-refused (text j) (lent j) (λ z. c .if1 .taken (number j ∙ z)))
-
-sub-fill : tie.Need-sub-fill
-sub-fill c = sheet-headed (text (c .before .before .before)) (can c .form) .long
-
-part-fill-start : tie.Need-part-fill-start
-part-fill-start c = sheet-headed (text (c .before .before .before)) (can c .form) .long
-
-part-fill-end : tie.Need-part-fill-end
-part-fill-end c = search needs
+    let a = c .before .before .before .args in
+    read-refused (a .text .now) (a .out .now) (c .before .refusal .result) (c .before .refusal .ensures) (λ z. omega arith)
 
 fill-requires : tie.Need-fill-requires
-fill-requires c κs = rw (part-to-end 14 (text (c .before .before .before .before .before))) (can (c .before .before) .places)
+fill-requires c κs = can (c .before) .places
+
+shared-slice-read-t11 : tie.Need-shared-slice-read-t11
+shared-slice-read-t11 c = omega (arith, has-head (c .before .before .before .before) .long)
+
+sub-t12 : tie.Need-sub-t12
+sub-t12 c = has-head (c .before .before .before .before) .low
 
 same-length : tie.Need-same-length
 same-length c = search needs
@@ -61,23 +55,10 @@ same-length c = search needs
 returns-2 : tie.Need-returns-2
 returns-2 c =
     let e = c .before .before .before .before in
-    let t = text (e .before .before .before) in
-    let old = lent (e .before .before .before) in
-    let filled =
-    c .before .fill .ensures
-    ∙ ap (λ (l : List ℕ). sets old 0 (samplesIn Start l)) (part-to-end 14 t)
-    ∙ sets-front (samplesOf t) old (can e .places) in
-    rw (e .before .before .before .judge .ensures, filled) (read-accepted t old (none e))
+    let p = c .before .before .fill .ensures in
+    let filled = p .1 ∙ sets-front (samplesOf (text e)) (lent e) (can e .places) in
+    (λ i. record { number = 0; count = p .0 i; state = bandIn (text e); lent = filled i }) ∙ read-accepted (text e) (lent e) (none e)
 
 pub read-spec : {M : Type 1} → statement M
 read-spec =
-    tie.close
-    (tie.spec
-    judge-requires
-    returns
-    sub-fill
-    part-fill-start
-    part-fill-end
-    fill-requires
-    same-length
-    returns-2)
+    tie.close (tie.spec refusal-requires returns fill-requires shared-slice-read-t11 sub-t12 same-length returns-2)

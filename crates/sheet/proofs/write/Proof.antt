@@ -2,14 +2,14 @@
 -- Assumes nothing.
 use mathlib.Core.Path.{_≡_, sym, ap, _∙_}
 use mathlib.Core.List.{List}
-use Prim.Native.Nat.{ℕ}
+use Prim.Native.Nat.{ℕ, _+_}
 use native.Mathlib.Omega.{arith}
 use borrow.Author.Needs.{needs}
 use lib.IntN.{ℤ}
 use lib.ListN.{length}
 use lib.Seq.{sets}
 use Rattle.tones.proofs.Laws.{band-digit}
-use Rattle.sheet.specs.Text.{linesOf}
+use Rattle.sheet.specs.Text.{linesOf, headOf}
 use Rattle.sheet.specs.Calls.{writeNumber}
 use Rattle.sheet.proofs.Lengths.{length-sheet}
 use Rattle.sheet.proofs.Calls.{Writable, writable, write-refused, write-accepted}
@@ -34,6 +34,14 @@ module _ (c : tie.Else1) where
   allowed : Writable band samples (length out)
   allowed = writable band samples (length out) none
 
+-- the head is put
+module _ (c : tie.After-put) where
+  abbrev else : tie.Else1
+  else = c .before .before .before .before
+
+  headed : c .put .last .0 ≡ sets (out else) 0 (headOf (48 + band else))
+  headed = c .put .ensures ∙ ap (sets (out else) 0) (c .before .before .before .head-of .ensures)
+
 refusal-requires : tie.Need-refusal-requires
 refusal-requires c κs = tt
 
@@ -42,12 +50,21 @@ returns c =
     let a = c .before .before .before .args in
     write-refused (a .band) (a .samples .now) (a .out .now) (c .before .refusal .result) (c .before .refusal .ensures) (c .if1 .taken)
 
-put-head-requires : tie.Need-put-head-requires
-put-head-requires c κs = band-digit (band (c .before)) (allowed (c .before) .known)
+add-head-of : tie.Need-add-head-of
+add-head-of c = let d = band-digit (band c) (allowed c .known) in search needs
+
+head-of-requires : tie.Need-head-of-requires
+head-of-requires c κs = tt
+
+slice-aggregate-put : tie.Need-slice-aggregate-put
+slice-aggregate-put c = search needs
+
+put-requires : tie.Need-put-requires
+put-requires c κs = tt
 
 put-lines-requires : tie.Need-put-lines-requires
 put-lines-requires c κs =
-    let e = c .before .before .before .before .before in
+    let e = c .before .before .before .before .before .before .before in
     omega (arith, length-sheet (band e) (samples e), allowed e .short)
 
 same-length : tie.Need-same-length
@@ -55,14 +72,24 @@ same-length c = search needs
 
 returns-2 : tie.Need-returns-2
 returns-2 c =
-    let e = c .before .before .before .before .before .before .before .before in
+    let h = c .before .before .before .before .before .before in
+    let e = else h in
     let p = c .before .before .put-lines .ensures in
     let count = p .0 ∙ sym (length-sheet (band e) (samples e)) in
     let lent =
-    p .1
-    ∙ ap (λ (l : List ℕ). sets l 14 (linesOf (samples e))) (c .before .before .before .before .before .before .put-head .ensures)
-    ∙ sheet-filled (band e) (samples e) (out e) (allowed e .places) in
+    p .1 ∙ ap (λ (l : List ℕ). sets l 14 (linesOf (samples e))) (headed h) ∙ sheet-filled (band e) (samples e) (out e) (allowed e .places) in
     (λ i. record { number = 0; count = count i; state = tt; lent = lent i }) ∙ write-accepted (band e) (samples e) (out e) (none e)
 
 pub write-spec : {M : Type 1} → statement M
-write-spec = tie.close (tie.spec refusal-requires returns put-head-requires put-lines-requires same-length returns-2)
+write-spec =
+    tie.close
+    (tie.spec
+    refusal-requires
+    returns
+    add-head-of
+    head-of-requires
+    slice-aggregate-put
+    put-requires
+    put-lines-requires
+    same-length
+    returns-2)

@@ -8,13 +8,13 @@ use Rattle.sheet.proofs.reader.fill.Statement.{statement}
 use Rattle.sheet.proofs.reader.fill.Tie as tie
 
 abbrev Inv-loop : tie.InvT-loop
-Inv-loop lines out₀ line₀ count₀ i₀ out line count i = Filled lines out₀ out line count i
+Inv-loop text out₀ line₀ count₀ i₀ out line count i = Filled text out₀ out line count i
 
 abbrev μ-loop : tie.MeasureT-loop
-μ-loop lines out₀ line₀ count₀ i₀ out line count i = length lines - i
+μ-loop text out₀ line₀ count₀ i₀ out line count i = length text - i
 
 loop-holds : tie.Need-loop-holds Inv-loop μ-loop
-loop-holds c = filled-start (c .before .args .lines .now) (c .before .args .out .now)
+loop-holds c = filled-start (c .before .args .text .now) (c .before .args .out .now)
 
 shared-slice-read-byte : tie.Need-shared-slice-read-byte Inv-loop μ-loop
 shared-slice-read-byte c = omega arith

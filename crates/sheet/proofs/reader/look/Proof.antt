@@ -8,13 +8,13 @@ use Rattle.sheet.proofs.reader.look.Statement.{statement}
 use Rattle.sheet.proofs.reader.look.Tie as tie
 
 abbrev Inv-loop : tie.InvT-loop
-Inv-loop lines seen₀ i₀ seen i = Looked lines seen i
+Inv-loop text seen₀ i₀ seen i = Looked text seen i
 
 abbrev μ-loop : tie.MeasureT-loop
-μ-loop lines seen₀ i₀ seen i = length lines - i
+μ-loop text seen₀ i₀ seen i = length text - i
 
 loop-holds : tie.Need-loop-holds Inv-loop μ-loop
-loop-holds c = looked-start (c .before .args .lines .now)
+loop-holds c = looked-start (c .before .args .text .now)
 
 shared-slice-read-look-on : tie.Need-shared-slice-read-look-on Inv-loop μ-loop
 shared-slice-read-look-on c = omega arith
@@ -31,10 +31,10 @@ loop-less c = omega arith
 loop-again : tie.Need-loop-again Inv-loop μ-loop
 loop-again c =
     let l = c .before .before .before .loop in
-    rw (c .look-on .ensures) (looked-more (c .before .before .before .before .before .args .lines .now) (l .seen) (l .i) (l .inv) (c .before .before .loop-test .taken))
+    rw (c .look-on .ensures) (looked-more (c .before .before .before .before .before .args .text .now) (l .seen) (l .i) (l .inv) (c .before .before .loop-test .taken))
 
 returns : tie.Need-returns Inv-loop μ-loop
-returns c = let l = c .before .loop in looked-all (c .before .before .before .args .lines .now) (l .seen) (l .i) (l .inv) (c .loop-test .left)
+returns c = let l = c .before .loop in looked-all (c .before .before .before .args .text .now) (l .seen) (l .i) (l .inv) (c .loop-test .left)
 
 pub look-spec : {M : Type 1} → statement M
 look-spec =

@@ -5,15 +5,15 @@ use mathlib.Core.Bool.{true}
 use mathlib.Core.List.{List}
 use Prim.Native.Nat.{_+_, _≤_}
 use native.Mathlib.Omega.{arith}
-use borrow.Author.Tests.{not-true, not-false}
+use borrow.Author.Tests.{not-true, not-false, lt-ltb, le-ltb}
 use lib.IntN.{ℤ}
 use lib.ListN.{length}
 use Rattle.tones.specs.Bands.{isBand}
 use Rattle.tones.specs.Samples.{areSamples}
 use Rattle.tones.proofs.Samples.{samples-bound}
 use Rattle.sheet.specs.Text.{linesOf, sheetOf}
+use Rattle.sheet.specs.Calls.{writeNumber}
 use Rattle.sheet.proofs.Lengths.{length-sheet, length-lines}
-use Rattle.sheet.proofs.Calls.{no-band, too-many, not-samples, too-large, no-room, nothing}
 use Rattle.sheet.proofs.writer.refusal.Statement.{statement}
 use Rattle.sheet.proofs.writer.refusal.Tie as tie
 
@@ -43,18 +43,24 @@ is-band-requires : tie.Need-is-band-requires
 is-band-requires c κs = tt
 
 returns : tie.Need-returns
-returns c = no-band _ _ _ (sym (c .before .is-band .ensures) ∙ not-true (c .before .is-band .result) (c .if1 .taken))
+unfolding writeNumber
+returns c = rw (sym (c .before .is-band .ensures) ∙ not-true (c .before .is-band .result) (c .if1 .taken))
 
 returns-2 : tie.Need-returns-2
-returns-2 c = too-many _ _ _ (known (c .before)) (c .if2 .taken)
+unfolding writeNumber
+returns-2 c = rw (known (c .before), lt-ltb _ _ (c .if2 .taken))
 
 are-samples-requires : tie.Need-are-samples-requires
 are-samples-requires c κs = tt
 
 returns-3 : tie.Need-returns-3
+unfolding writeNumber
 returns-3 c =
-    not-samples _ _ _ (known (c .before .before .before)) (c .before .before .if2 .left)
-    (sym (c .before .are-samples .ensures) ∙ not-true (c .before .are-samples .result) (c .if3 .taken))
+    rw (
+      known (c .before .before .before),
+      le-ltb _ _ (c .before .before .if2 .left),
+      sym (c .before .are-samples .ensures) ∙ not-true (c .before .are-samples .result) (c .if3 .taken),
+    )
 
 lines-len-requires : tie.Need-lines-len-requires
 lines-len-requires c κs = short c
@@ -63,21 +69,36 @@ add-n : tie.Need-add-n
 add-n c = omega (arith, c .lines-len .ensures, short (c .before))
 
 returns-4 : tie.Need-returns-4
+unfolding writeNumber
 returns-4 c =
     let s = c .before .before in
-    too-large _ _ _ (known (s .before .before .before)) (few s) (sound s) (rw (size (c .before)) at (c .if4 .taken))
+    rw (known (s .before .before .before), le-ltb _ _ (few s), sound s, ← size (c .before), lt-ltb _ _ (c .if4 .taken))
 
 returns-5 : tie.Need-returns-5
+unfolding writeNumber
 returns-5 c =
     let s = c .before .before .before in
-    let e = size (c .before .before) in
-    no-room _ _ _ (known (s .before .before .before)) (few s) (sound s) (rw e at (c .before .if4 .left)) (rw e at (c .if5 .taken))
+    rw (
+      known (s .before .before .before),
+      le-ltb _ _ (few s),
+      sound s,
+      ← size (c .before .before),
+      le-ltb _ _ (c .before .if4 .left),
+      lt-ltb _ _ (c .if5 .taken),
+    )
 
 returns-6 : tie.Need-returns-6
+unfolding writeNumber
 returns-6 c =
     let s = c .before .before .before in
-    let e = size (c .before .before) in
-    nothing _ _ _ (known (s .before .before .before)) (few s) (sound s) (rw e at (c .before .if4 .left)) (rw e at (c .if5 .left))
+    rw (
+      known (s .before .before .before),
+      le-ltb _ _ (few s),
+      sound s,
+      ← size (c .before .before),
+      le-ltb _ _ (c .before .if4 .left),
+      le-ltb _ _ (c .if5 .left),
+    )
 
 pub refusal-spec : {M : Type 1} → statement M
 refusal-spec =
