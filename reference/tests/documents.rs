@@ -95,7 +95,7 @@ fn each_edit_has_one_row() {
 fn first_error(log: &str) -> Option<[String; 2]> {
     let line = log.lines().find(|line| line.contains(": error: "))?;
     let (place, message) = line.split_once(": error: ")?;
-    let (_, path) = place.split_once("/proofs/")?;
+    let (_, path) = place.rsplit_once("/proofs/")?;
     let proof = path.split(".antt").next()?.trim_end_matches("/Proof");
     let step = quoted(message).into_iter().next()?;
     Some([proof.trim_start_matches('+').into(), step])
