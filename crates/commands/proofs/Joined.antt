@@ -13,18 +13,19 @@ use Rattle.text.specs.Numbers.{isDigit}
 use Rattle.text.proofs.Numbers.{is-digit}
 use Rattle.receiver.specs.Step.{eventsAfter}
 use Rattle.receiver.specs.Calls.{fresh}
+use Rattle.message.specs.Message.{messageOf}
 use Rattle.sheet.specs.Text.{sheetOf}
 use Rattle.sheet.proofs.RoundTrip.{written-read, read-written}
 use Rattle.promise.specs.Recordings.{AreBytes}
 use Rattle.promise.proofs.Message.{message-read}
 use Rattle.commands.specs.Lines.{eventsText}
-use Rattle.commands.specs.Programs.{messageOf, sendNumber, modulated, demodulated}
+use Rattle.commands.specs.Programs.{sendNumber, modulated, demodulated}
 use Rattle.commands.specs.Joined.{ReadBack}
-use Rattle.commands.proofs.Programs.{Sendable, sendable, sending-accepted, digit-first, reading-accepted}
+use Rattle.commands.proofs.Programs.{Printable, printable, sending-accepted, digit-first, reading-accepted}
 
 module _ (band : ℕ) (message : List ℕ) (bytes : AreBytes message) (accepted : sendNumber band message ≡ 0) where
-  abbrev all : Sendable band message
-  all = sendable band message accepted
+  abbrev all : Printable band message
+  all = printable band message accepted
 
   abbrev samples : List ℤ
   samples = messageOf band message

@@ -1,4 +1,3 @@
 pub mod Programs
 pub mod Joined
 pub mod Printing
-pub mod Sending

@@ -1,48 +1,56 @@
 -- The cases of what each program prints, each under the tests that lead to it, and what is known when a message is accepted.
 -- Assumes nothing.
 use mathlib.Core.Path.{_≡_, sym, ap, _∙_}
-use mathlib.Core.Bool.{true, false, not}
+use mathlib.Core.Bool.{true, false}
 use mathlib.Core.List.{List, _∷_}
 use Prim.Native.Nat.{ℕ, _-_, _<_, _≤_}
 use native.Mathlib.Omega.{arith}
-use borrow.Author.Tests.{eqb-true, eqb-false, ltb-false, ne-eqb}
-use lib.Dec.{ltb, eqb}
+use borrow.Author.Tests.{eqb-true, eqb-false, ne-eqb}
+use lib.Dec.{eqb}
 use lib.ListN.{length, getD, take, drop, length-append, length-drop, drop-of-length-le}
 use lib.Seq.{take-all, take-at, drop-cons}
 use Rattle.integers.proofs.Tests.{cond-split}
-use Rattle.tones.specs.Bands.{isBand}
 use Rattle.text.specs.Numbers.{isDigit}
 use Rattle.receiver.specs.Step.{eventsAfter}
 use Rattle.receiver.specs.Calls.{fresh}
+use Rattle.message.specs.Message.{messageOf, messageNumber}
+use Rattle.message.proofs.Calls.{sendable}
 use Rattle.sheet.specs.Text.{sheetOf}
 use Rattle.sheet.specs.Parse.{bandIn, samplesOf}
 use Rattle.sheet.specs.Calls.{readNumber, writeNumber}
 use Rattle.sheet.proofs.Calls.{Writable, writable}
 use Rattle.commands.specs.Lines.{refusalLines, eventsText}
-use Rattle.commands.specs.Programs.{messageOf, messageNumber, sendNumber, sendingOf, modulated, demodulated, over, Front}
+use Rattle.commands.specs.Programs.{sendNumber, sendingOf, modulated, demodulated, over, Front}
 
--- ---- a message that is accepted
+-- ---- the number of a message and its sheet
 
 module _ (band : ℕ) (bytes : List ℕ) where
-  -- what holds when a message is accepted
-  pub record Sendable : Type 0 where
+  abbrev number : ℕ
+  number = messageNumber band (length bytes) 32192
+
+  pub number-refused : (number ≡ 0 → ⊥) → number ≡ sendNumber band bytes
+  unfolding sendNumber
+  number-refused h = rw (ne-eqb number 0 h)
+
+  pub number-sheet : number ≡ 0 → writeNumber band (messageOf band bytes) 65536 ≡ sendNumber band bytes
+  unfolding sendNumber
+  number-sheet e = rw e
+
+  -- what holds when there is none
+  pub record Printable : Type 0 where
     pub few : length bytes ≤ 100
     pub written : Writable band (messageOf band bytes) 65536
 
-  few-bytes : messageNumber band bytes ≡ 0 → length bytes ≤ 100
-  unfolding messageNumber
-  few-bytes =
-      let P : ℕ → Type 0 = λ k. k ≡ 0 → length bytes ≤ 100 in
-      cond-split P (not (isBand band)) 1 _ (λ t e. absurd (omega arith))
-      (λ known. cond-split P (ltb 100 (length bytes)) 3 0 (λ t e. absurd (omega arith)) (λ few e. ltb-false 100 (length bytes) few))
-
-  pub sendable : sendNumber band bytes ≡ 0 → Sendable
+  pub printable : sendNumber band bytes ≡ 0 → Printable
   unfolding sendNumber
-  sendable =
-      let n : ℕ = messageNumber band bytes in
-      cond-split (λ (k : ℕ). k ≡ 0 → Sendable) (eqb n 0) (writeNumber band (messageOf band bytes) 65536) n
-      (λ z e. record { few = few-bytes (eqb-true n 0 z); written = writable band (messageOf band bytes) 65536 e })
-      (λ z e. absurd (eqb-false n 0 z e))
+  printable =
+      cond-split (λ (k : ℕ). k ≡ 0 → Printable) (eqb number 0) (writeNumber band (messageOf band bytes) 65536) number
+      (λ z e.
+      record {
+        few = sendable band (length bytes) 32192 (eqb-true number 0 z) .few;
+        written = writable band (messageOf band bytes) 65536 e;
+      })
+      (λ z e. absurd (eqb-false number 0 z e))
 
 -- ---- what `modulate` prints
 

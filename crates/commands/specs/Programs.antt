@@ -1,16 +1,13 @@
 -- What each program prints, from what it reads: document 01, "Sheet and programs".
 -- Assumes nothing.
 use mathlib.Core.Path.{_≡_}
-use mathlib.Core.Bool.{cond, not}
+use mathlib.Core.Bool.{cond}
 use mathlib.Core.List.{List, [], _∷_, _++_}
 use Prim.Native.Nat.{ℕ, _-_, _≤_}
-use lib.Dec.{ltb, eqb}
-use lib.IntN.{ℤ}
+use lib.Dec.{eqb}
 use lib.ListN.{length, take, drop}
-use Rattle.calls.specs.Outcome.{Outcome, refused, accepted}
 use Rattle.text.specs.Numbers.{isDigit}
-use Rattle.tones.specs.Bands.{isBand, tonesOf}
-use Rattle.transmitter.specs.Samples.{sendBits, messageBits}
+use Rattle.message.specs.Message.{messageOf, messageNumber}
 use Rattle.receiver.specs.Step.{eventsAfter}
 use Rattle.receiver.specs.Calls.{fresh}
 use Rattle.sheet.specs.Text.{sheetOf}
@@ -20,18 +17,11 @@ use Rattle.commands.specs.Lines.{refusalLines, eventsText}
 
 -- ---- modulate
 
--- the samples of leader, characters and trailer
-abbrev pub messageOf : ℕ → List ℕ → List ℤ
-messageOf band bytes = sendBits (tonesOf band) 0 (messageBits bytes)
-
--- the first refusal of the opening and of the characters call; leader and trailer are never refused
-unfoldable pub messageNumber : ℕ → List ℕ → ℕ
-messageNumber band bytes = cond (not (isBand band)) 1 (cond (ltb 100 (length bytes)) 3 0)
-
--- or that of a sheet for which there is always room
+-- the refusal of the message, or that of its sheet; there are 32,192 places for the samples, enough for 100 characters, and 65,536 for the
+-- sheet
 unfoldable pub sendNumber : ℕ → List ℕ → ℕ
 sendNumber band bytes =
-    let n : ℕ = messageNumber band bytes in
+    let n : ℕ = messageNumber band (length bytes) 32192 in
     cond (eqb n 0) (writeNumber band (messageOf band bytes) 65536) n
 
 -- the sheet, or the refusal
@@ -52,13 +42,6 @@ unfoldable pub demodulated : List ℕ → List ℕ
 demodulated text =
     let n : ℕ = readNumber text 16384 in
     cond (eqb n 0) (eventsText (eventsAfter (fresh (bandIn text)) (samplesOf text))) (refusalLines n)
-
--- ---- leader, characters and trailer as one call; there is no state
-
-unfoldable pub messageCall : ℕ → List ℕ → List ℤ → Outcome Unit ℤ
-messageCall band bytes lent =
-    let n : ℕ = messageNumber band bytes in
-    cond (eqb n 0) (accepted tt (messageOf band bytes) lent) (refused n tt lent)
 
 -- ---- what a caller's buffer holds
 

@@ -6,7 +6,7 @@ ghost use Rattle.commands.specs.Programs.{modulated, demodulated, over, 
 
 mod events;
 mod lines;
-mod message;
+mod sending;
 
 // A band digit and characters to the sheet of leader, characters and trailer.
 pub fn modulate(input: &[u8], out: &mut [u8; 65536]) -> usize
@@ -21,7 +21,7 @@ pub fn modulate(input: &[u8], out: &mut [u8; 65536]) -> usize
     if !text::is_digit(first) {
         return lines::put_refusal(out, 1);
     }
-    message::put_sheet(first - 48, &input[1..], out)
+    sending::put_sheet(first - 48, &input[1..], out)
 }
 
 // A sheet to the lines of its events. A sheet has at most 342 events, each in a line of at most 14 bytes.

@@ -1,3 +1,3 @@
 pub mod Refusals
-pub mod Sending
+pub mod Disturbing
 pub mod Receiving

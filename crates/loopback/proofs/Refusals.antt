@@ -12,7 +12,8 @@ use lib.IntN.{ℤ}
 use lib.ListN.{length, drop}
 use Rattle.calls.specs.Outcome.{refused, accepted}
 use Rattle.tones.specs.Bands.{isBand}
-use Rattle.loopback.specs.Loopback.{samplesFor, recordedOf, isSize, areDisturbances, isRoom, refusalOf, loopbackOf}
+use Rattle.message.specs.Message.{samplesFor}
+use Rattle.loopback.specs.Loopback.{recordedOf, isSize, areDisturbances, isRoom, refusalOf, loopbackOf}
 
 pub size-few : (characters size : ℕ) → isSize characters size ≡ true → characters ≤ 100
 size-few characters size s =

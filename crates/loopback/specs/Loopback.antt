@@ -3,24 +3,19 @@
 -- Assumes nothing.
 use mathlib.Core.Bool.{Bool, cond, not, _&&_}
 use mathlib.Core.List.{List, _++_}
-use Prim.Native.Nat.{ℕ, _+_, _*_, _≤_}
+use Prim.Native.Nat.{ℕ}
 use lib.Dec.{leb, eqb}
 use lib.IntN.{ℤ, pos, negsuc}
 use lib.ListN.{length, drop}
 use Rattle.integers.specs.Near.{altered}
-use Rattle.integers.specs.Sums.{Bounded}
 use Rattle.calls.specs.Outcome.{Outcome, refused, accepted}
-use Rattle.tones.specs.Bands.{isBand, tonesOf}
+use Rattle.tones.specs.Bands.{isBand}
 use Rattle.tones.specs.Samples.{areBetween}
-use Rattle.transmitter.specs.Samples.{sendBits, messageBits}
+use Rattle.message.specs.Message.{messageOf, samplesFor}
 
--- the samples of leader, n characters and trailer
-abbrev pub samplesFor : ℕ → ℕ
-samplesFor n = 192 + 320 * n
-
--- each with the number at its place added
+-- the samples of the message, each with the number at its place added
 abbrev pub recordedOf : (band : ℕ) (characters : List ℕ) (disturbance : List ℤ) → List ℤ
-recordedOf band characters disturbance = altered (sendBits (tonesOf band) 0 (messageBits characters)) disturbance
+recordedOf band characters disturbance = altered (messageOf band characters) disturbance
 
 -- at most 100 characters, and blocks of 1 to 16,384 samples
 abbrev pub isSize : (characters size : ℕ) → Bool
@@ -50,11 +45,3 @@ loopbackOf band characters disturbance size samples events =
     let n : ℕ = refusalOf band (length characters) disturbance size (length samples) (length events) in
     let recorded : List ℤ = recordedOf band characters disturbance in
     cond (eqb n 0) (accepted (recorded ++ drop (length recorded) samples) characters events) (refused n samples events)
-
--- ---- what the code asks
-
--- n numbers to add, each small, and n places
-pub record Disturbs (n : ℕ) (disturbance samples : List ℤ) : Type 0 where
-  pub numbers : n ≤ length disturbance
-  pub places : n ≤ length samples
-  pub small : Bounded 100 disturbance

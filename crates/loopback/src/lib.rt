@@ -5,8 +5,8 @@ ghost use Prim.Native.Nat.{_≤_};
 ghost use Rattle.calls.specs.Outcome.{outcome};
 ghost use Rattle.loopback.specs.Loopback.{isSize, isRoom, refusalOf, loopbackOf};
 
+mod disturb;
 mod receive;
-mod send;
 
 use calls::Answer;
 
@@ -34,7 +34,9 @@ pub fn loopback(
     if number != 0 {
         return Answer { number, count: 0 };
     }
-    let end = send::send(band, characters, disturbance, samples);
+    let sent = message::send(band, characters, samples);
+    let end = sent.count;
+    disturb::disturb(&mut samples[..end], disturbance);
     let count = receive::receive(band, &samples[..end], size, events);
     Answer { number: 0, count }
 }

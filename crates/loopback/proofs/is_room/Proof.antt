@@ -6,7 +6,7 @@ use mathlib.Core.Logic.{⊎-elim}
 use borrow.Author.Needs.{needs}
 use borrow.Author.Tests.{le-leb, lt-leb}
 use lib.Dec.{leb}
-use Rattle.loopback.specs.Loopback.{samplesFor}
+use Rattle.message.specs.Message.{samplesFor}
 use Rattle.loopback.proofs.is_room.Statement.{statement}
 use Rattle.loopback.proofs.is_room.Tie as tie
 

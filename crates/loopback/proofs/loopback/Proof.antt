@@ -1,26 +1,33 @@
--- `loopback::loopback` meets its contract: nothing stands against the calls, and by the promise the events are the characters.
+-- `loopback::loopback` meets its contract: the message is not refused, and what is read of it, disturbed, is by the promise what was sent.
 -- Assumes nothing.
-use mathlib.Core.Path.{_≡_, sym, ap, _∙_}
+use mathlib.Core.Path.{_≡_, sym, ap, ap₂, _∙_}
+use mathlib.Core.Bool.{true}
 use mathlib.Core.List.{List, _++_}
 use Prim.Native.Nat.{ℕ}
 use native.Mathlib.Omega.{arith}
 use borrow.Author.Needs.{needs}
 use lib.IntN.{ℤ}
-use lib.ListN.{length, take, drop}
-use mathlib.Core.Bool.{true}
-use lib.Seq.{sets, length-sets, take-at}
+use lib.ListN.{length, take, drop, length-append}
+use lib.Seq.{sets, take-at, drop-at}
+use Rattle.integers.specs.Near.{altered}
 use Rattle.integers.specs.Sums.{Bounded}
+use Rattle.integers.proofs.Near.{length-altered}
 use Rattle.integers.proofs.Lists.{sets-front}
-use Rattle.calls.specs.Outcome.{refused}
+use Rattle.calls.specs.Outcome.{Outcome, outcome, refused, accepted}
+use Rattle.calls.proofs.Answers.{given-count, given-front, given-part, given-room}
+use Rattle.tones.specs.Bands.{tonesOf}
 use Rattle.tones.specs.Samples.{areSamples}
 use Rattle.tones.proofs.Samples.{between-bound}
+use Rattle.transmitter.specs.Samples.{bitSteps, messageBits}
+use Rattle.transmitter.proofs.Laws.{send-bound}
 use Rattle.receiver.specs.Step.{eventsAfter}
 use Rattle.receiver.specs.Calls.{fresh}
+use Rattle.message.specs.Message.{messageOf}
+use Rattle.message.proofs.Calls.{length-samples, send-0}
 use Rattle.promise.specs.Recordings.{AreBytes}
 use Rattle.promise.proofs.Message.{are-bytes, message-range, message-read}
 use Rattle.loopback.specs.Loopback.{recordedOf}
 use Rattle.loopback.proofs.Refusals.{Allowed, allowed, loopback-refused, loopback-accepted}
-use Rattle.loopback.proofs.Sending.{recorded-length}
 use Rattle.loopback.proofs.loopback.Statement.{statement}
 use Rattle.loopback.proofs.loopback.Tie as tie
 
@@ -39,13 +46,19 @@ module _ (c : tie.Else1) where
   abbrev ds : List ℤ
   ds = start .args .disturbance .now
 
+  abbrev samples : List ℤ
+  samples = start .args .samples .now
+
+  abbrev message : List ℤ
+  message = messageOf band cs
+
   abbrev recorded : List ℤ
   recorded = recordedOf band cs ds
 
   none : c .before .refusal .result ≡ 0
   none = c .if1 .left
 
-  all-allowed : Allowed band (length cs) ds (start .args .size) (length (start .args .samples .now)) (length (start .args .events .now))
+  all-allowed : Allowed band (length cs) ds (start .args .size) (length samples) (length (start .args .events .now))
   all-allowed = allowed _ _ _ _ _ _ (sym (c .before .refusal .ensures) ∙ none)
 
   bytes : AreBytes cs
@@ -61,31 +74,53 @@ module _ (c : tie.Else1) where
   promised : eventsAfter (fresh band) recorded ≡ cs
   promised = message-read band (all-allowed .band-known) cs bytes (all-allowed .few) ds small
 
--- ---- what was sent is at the buffer's front
+-- ---- the message is at the buffer's front
 
 module _ (c : tie.After-send) where
-  abbrev samples : List ℤ
-  samples = c .before .before .before .before .before .before .args .samples .now
+  abbrev else : tie.Else1
+  else = c .before .before
+
+  abbrev sent : Outcome Unit ℤ
+  sent = outcome (c .send .result) tt (c .send .last .1 .1 .0)
+
+  given : sent ≡ accepted tt (message else) (samples else)
+  given =
+      let a = all-allowed else in
+      c .send .ensures ∙ send-0 (band else) (cs else) (samples else) (record { known = a .band-known; few = a .few; room = a .places })
+
+  counted : sent .count ≡ length (message else)
+  counted = given-count tt (message else) (samples else) sent given
+
+  front : take (sent .count) (sent .lent) ≡ message else
+  front = given-front tt (message else) (samples else) sent given
+
+  behind : drop (sent .count) (sent .lent) ≡ drop (length (message else)) (samples else)
+  behind =
+      ap (λ (o : Outcome Unit ℤ). drop (sent .count) (o .lent)) given
+      ∙ drop-at (message else) (drop (length (message else)) (samples else)) (sent .count) (sym counted)
+
+-- ---- and then the recording
+
+module _ (c : tie.After-disturb) where
+  abbrev called : tie.After-send
+  called = c .before .before .before
+
+  abbrev taken : tie.Else1
+  taken = else called
 
   abbrev left : List ℤ
-  left = c .send .last .1 .1 .1 .0
+  left = c .disturb .last .0 ++ drop (sent called .count) (sent called .lent)
 
-  size : c .send .result ≡ length (recorded (c .before .before))
-  size = c .send .ensures .0 ∙ sym (recorded-length (band (c .before .before)) (cs (c .before .before)) (ds (c .before .before)) samples)
+  long : length (recorded taken) ≡ sent called .count
+  long = length-altered (message taken) (ds taken) ∙ sym (counted called)
 
-  filled : left ≡ recorded (c .before .before) ++ drop (length (recorded (c .before .before))) samples
+  filled : left ≡ recorded taken ++ drop (length (recorded taken)) (samples taken)
   filled =
-      c .send .ensures .1
-      ∙ sets-front (recorded (c .before .before)) samples
-      (omega (arith, all-allowed (c .before .before) .places, recorded-length (band (c .before .before)) (cs (c .before .before)) (ds (c .before .before)) samples))
+      ap₂ (λ (l r : List ℤ). l ++ r) (c .disturb .ensures ∙ ap (λ (xs : List ℤ). altered xs (ds taken)) (front called))
+      (behind called ∙ ap (λ (n : ℕ). drop n (samples taken)) (sym (length-altered (message taken) (ds taken))))
 
-  front : take (c .send .result) left ≡ recorded (c .before .before)
-  front =
-      ap (take (c .send .result)) filled
-      ∙ take-at (recorded (c .before .before)) (drop (length (recorded (c .before .before))) samples) (c .send .result) (sym size)
-
-  long : length left ≡ length samples
-  long = ap length (c .send .ensures .1) ∙ length-sets samples 0 (recorded (c .before .before))
+  read-part : take (sent called .count) left ≡ recorded taken
+  read-part = ap (take (sent called .count)) filled ∙ take-at (recorded taken) (drop (length (recorded taken)) (samples taken)) (sent called .count) long
 
 -- ---- what is asked and left
 
@@ -100,23 +135,39 @@ returns c =
     ∙ sym (loopback-refused (a .band) (a .characters .now) (a .disturbance .now) (a .size) (a .samples .now) (a .events .now) (λ z. c .if1 .taken (e ∙ z)))
 
 send-requires : tie.Need-send-requires
-send-requires c κs =
-    let e = c .before in
-    let a = all-allowed e in
-    (a .band-known, (a .few, record { numbers = a .numbers; places = a .places; small = small e }))
+send-requires c κs = tt
+
+slice-relend-prefix-disturb : tie.Need-slice-relend-prefix-disturb
+slice-relend-prefix-disturb c =
+    let s = c .before in
+    given-room tt (message (else s)) (samples (else s)) (sent s) (given s)
+
+slice-aggregate-disturb : tie.Need-slice-aggregate-disturb
+slice-aggregate-disturb c =
+    let s = c .before .before in
+    given-part tt (message (else s)) (samples (else s)) (sent s) (given s)
+
+disturb-requires : tie.Need-disturb-requires
+disturb-requires c κs =
+    let s = c .before .before in
+    let e = else s in
+    rw (front s)
+    (send-bound 0 (bitSteps (tonesOf (band e)) (messageBits (cs e))), (small e, omega (arith, length-samples (band e) (cs e), all-allowed e .numbers)))
 
 slice-reshare-prefix-receive : tie.Need-slice-reshare-prefix-receive
 slice-reshare-prefix-receive c =
-    omega (arith, c .before .send .ensures .0, long (c .before), all-allowed (c .before .before .before) .places)
+    let d = c .before in
+    omega (arith, ap length (filled d), length-append (recorded (taken d)) (drop (length (recorded (taken d))) (samples (taken d))), long d)
 
 slice-aggregate-receive : tie.Need-slice-aggregate-receive
-slice-aggregate-receive c = size (c .before .before) ∙ sym (ap length (front (c .before .before)))
+slice-aggregate-receive c = let d = c .before .before in sym (ap length (read-part d) ∙ long d)
 
 receive-requires : tie.Need-receive-requires
 receive-requires c κs =
-    let e = c .before .before .before .before .before in
+    let d = c .before .before .before in
+    let e = taken d in
     let a = all-allowed e in
-    rw (front (c .before .before .before), promised e) (a .band-known, (range e, ((a .size-low, a .size-high), a .room)))
+    rw (read-part d, promised e) (a .band-known, (range e, ((a .size-low, a .size-high), a .room)))
 
 same-length : tie.Need-same-length
 same-length c = search needs
@@ -126,12 +177,14 @@ same-length-2 c = search needs
 
 returns-2 : tie.Need-returns-2
 returns-2 c =
-    let a = c .before .before .before .before .before .before .before .before .before .before .before .before .args in
-    let e = c .before .before .before .before .before .before .before .before in
-    let read = ap (eventsAfter (fresh (a .band))) (front (c .before .before .before .before .before .before)) ∙ promised e in
-    let count = c .before .before .receive .ensures .0 ∙ ap length read in
-    let events = c .before .before .receive .ensures .1 ∙ ap (sets (a .events .now) 0) read ∙ sets-front (cs e) (a .events .now) (all-allowed e .room) in
-    (λ i. record { number = 0; count = count i; state = filled (c .before .before .before .before .before .before) i; lent = events i })
+    let d = c .before .before .before .before .before .before in
+    let e = taken d in
+    let a = start e .args in
+    let p = c .before .before .receive .ensures in
+    let read = ap (eventsAfter (fresh (a .band))) (read-part d) ∙ promised e in
+    let events = p .1 ∙ ap (sets (a .events .now) 0) read ∙ sets-front (cs e) (a .events .now) (all-allowed e .room) in
+    let count = p .0 ∙ ap length read in
+    (λ i. record { number = 0; count = count i; state = filled d i; lent = events i })
     ∙ sym
     (loopback-accepted (a .band) (a .characters .now) (a .disturbance .now) (a .size) (a .samples .now) (a .events .now)
     (sym (e .before .refusal .ensures) ∙ none e))
@@ -143,6 +196,9 @@ loopback-spec =
     refusal-requires
     returns
     send-requires
+    slice-relend-prefix-disturb
+    slice-aggregate-disturb
+    disturb-requires
     slice-reshare-prefix-receive
     slice-aggregate-receive
     receive-requires

@@ -1,21 +1,22 @@
--- `commands::message::put_sheet` meets its contract: the number of each call decides what is printed.
+-- `commands::sending::put_sheet` meets its contract: the number of each call decides what is printed.
 -- Assumes nothing.
-use mathlib.Core.Path.{_≡_, sym, ap, ap₂, _∙_}
+use mathlib.Core.Path.{_≡_, sym, ap, ap₂, _∙_, subst}
 use mathlib.Core.List.{List}
 use Prim.Native.Nat.{ℕ}
 use native.Mathlib.Omega.{arith}
 use borrow.Author.Needs.{needs}
 use lib.IntN.{ℤ, pos}
-use lib.ListN.{length, replicate}
+use lib.ListN.{length, replicate, length-replicate}
 use Rattle.calls.specs.Outcome.{Outcome, outcome, accepted}
 use Rattle.calls.proofs.Answers.{Answered, given-front, given-part, given-room}
+use Rattle.message.specs.Message.{messageOf, messageNumber}
+use Rattle.message.proofs.Calls.{send-answer}
 use Rattle.sheet.specs.Text.{sheetOf}
 use Rattle.sheet.proofs.Calls.{write-answer}
-use Rattle.commands.specs.Programs.{messageOf, messageNumber, sendNumber, over}
-use Rattle.commands.proofs.Sending.{message-answer, number-refused, number-sheet}
-use Rattle.commands.proofs.Programs.{sending-refused, sending-accepted}
-use Rattle.commands.proofs.message.put_sheet.Statement.{statement}
-use Rattle.commands.proofs.message.put_sheet.Tie as tie
+use Rattle.commands.specs.Programs.{sendNumber, over}
+use Rattle.commands.proofs.Programs.{number-refused, number-sheet, sending-refused, sending-accepted}
+use Rattle.commands.proofs.sending.put_sheet.Statement.{statement}
+use Rattle.commands.proofs.sending.put_sheet.Tie as tie
 
 -- ---- what each call answers
 
@@ -38,8 +39,10 @@ module _ (c : tie.After-send) where
   abbrev sent : Outcome Unit ℤ
   sent = outcome (c .send .result) tt (c .send .last .1 .1 .0)
 
-  sent-answer : Answered tt (messageOf band bytes) zeros (messageNumber band bytes) sent
-  sent-answer = message-answer band bytes zeros sent (c .send .ensures)
+  sent-answer : Answered tt (messageOf band bytes) zeros (messageNumber band (length bytes) 32192) sent
+  sent-answer =
+      subst (λ (n : ℕ). Answered tt (messageOf band bytes) zeros (messageNumber band (length bytes) n) sent) (length-replicate 32192 (pos 0))
+      (send-answer band bytes zeros sent (c .send .ensures))
 
 -- the calls of the message are refused
 refused : (c : tie.Then1) → c .before .before .before .send .result .number ≡ sendNumber (band (c .before .before .before)) (bytes (c .before .before .before))
@@ -53,7 +56,7 @@ module _ (c : tie.Else1) where
   abbrev at : tie.After-send
   at = c .before .before .before
 
-  none : messageNumber (band at) (bytes at) ≡ 0
+  none : messageNumber (band at) (length (bytes at)) 32192 ≡ 0
   none = sym (sent-answer at .told) ∙ c .if1 .left
 
   given : sent at ≡ accepted tt (messageOf (band at) (bytes at)) zeros
@@ -86,7 +89,7 @@ slice-aggregate-send : tie.Need-slice-aggregate-send
 slice-aggregate-send c = search needs
 
 send-requires : tie.Need-send-requires
-send-requires c κs = search needs
+send-requires c κs = tt
 
 put-refusal-requires : tie.Need-put-refusal-requires
 put-refusal-requires c κs =

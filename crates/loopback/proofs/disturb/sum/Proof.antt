@@ -1,12 +1,12 @@
--- `loopback::send::sum` meets its contract: the sum is at most 6,100 in size.
+-- `loopback::disturb::sum` meets its contract: the sum is at most 6,100 in size.
 -- Assumes nothing.
 use mir.Syntax.{w16}
 use mir.Facts.{toZ-ofZ}
 use mir.Val.{SFits}
 use lib.IntN.{_+ℤ_}
 use Rattle.integers.proofs.Size.{add-size, fits-size}
-use Rattle.loopback.proofs.send.sum.Statement.{statement}
-use Rattle.loopback.proofs.send.sum.Tie as tie
+use Rattle.loopback.proofs.disturb.sum.Statement.{statement}
+use Rattle.loopback.proofs.disturb.sum.Tie as tie
 
 fits : (c : tie.Start) → SFits w16 (c .args .sample +ℤ c .args .added)
 fits c = fits-size (add-size (c .args .sample) (c .args .added) (c .pre .0) (c .pre .1)) tt
