@@ -1,192 +1,181 @@
-//! Measures the library's receiver beside two Rust loops that do the same.
+//! Measures the library's receiver beside other readers of the same recording:
+//! two Rust loops that do the same, and spandsp and minimodem where they are
+//! installed. `run`, in this package's folder, builds and starts it.
 //!
-//! Run it in this folder, after `rt staticlib exports` at the repository's
-//! root:
-//!
-//!     cargo run --release --offline
-//!
-//! It prints the times, their ratios and whether each ratio keeps its bar, and
-//! ends with status 1 if one does not. Times are of one process on a shared
-//! machine, so the best of many rounds counts and the gate does not run it.
+//! It prints speeds, ratios and whether each ratio keeps its bar, and ends with
+//! status 1 if one does not. The gate does not run it, since a busy machine can
+//! mislead it.
 
-#![forbid(unsafe_code)]
+#![deny(unsafe_code)]
 
-use reference::random::Random;
-use reference::receiver::{self, places_needed, Answer, State};
+mod clock;
+mod minimodem;
+mod readers;
+mod recording;
+mod score;
+#[cfg(feature = "spandsp")]
+mod spandsp;
+mod table;
+
+use minimodem::Minimodem;
+use readers::{Reader, Reading, BLOCK};
+use recording::{Recording, DISTURBANCE, SEED};
 use reference::sine::Sines;
-use reference::{in_place, library, shifted_window, transmitter};
+use reference::{in_place, shifted_window};
+use score::Score;
+use std::env;
+use std::path::Path;
 use std::process::ExitCode;
-use std::time::{Duration, Instant};
+use table::{Bar, Row};
 
-const SEED: u64 = 20;
-const BAND: u8 = 1;
-const DISTURBANCE: usize = 100;
-/// The most that one call takes.
-const BLOCK: usize = 16_384;
-const CHARACTERS: usize = 800;
-/// Whole blocks that hold the sending and silence around it.
-const BLOCKS: usize = 16;
-/// How much longer the second recording is.
-const TIMES: usize = 10;
-const ROUNDS: usize = 300;
-const GROWTH_ROUNDS: usize = 40;
+const BANDS: [u8; 2] = [1, 2];
+/// The characters of the recording that all read, and of shorter ones that show
+/// how the time grows.
+const LENGTHS: [usize; 3] = [100_000, 10_000, 1_000];
+const ROUNDS: usize = 12;
 
-struct Recording {
-    message: Vec<u8>,
-    samples: Vec<i16>,
+/// A long recording is read about as fast as a short one, so the time grows in
+/// proportion to the length.
+const GROWTH: Bar = Bar {
+    least: 1.0 / 1.2,
+    most: 1.2,
+};
+const IN_PLACE: Bar = Bar::at_least(0.7);
+const SHIFTED_WINDOW: Bar = Bar::at_least(2.0);
+const OTHERS: Bar = Bar::at_least(1.7);
+
+/// A reader with its recording, which it reads so often that every entry reads
+/// as many characters.
+struct Entry<'a> {
+    name: String,
+    reader: Box<dyn Reader + 'a>,
+    recording: &'a Recording,
+    times: usize,
+    bar: Option<Bar>,
 }
 
-/// A sending of random characters in the middle of `blocks` blocks.
-fn recording(sines: &Sines, characters: usize, blocks: usize) -> Recording {
-    let mut random = Random::new(SEED);
-    let message = random.bytes(characters);
-    let sending = transmitter::sending(sines, BAND, &message);
-    let mut samples = vec![0; blocks * BLOCK];
-    let before = (samples.len() - sending.len()) / 2;
-    samples[before..before + sending.len()].copy_from_slice(&sending);
-    for sample in &mut samples {
-        *sample += random.below(2 * DISTURBANCE + 1) as i16 - DISTURBANCE as i16;
+impl<'a> Entry<'a> {
+    fn new(
+        name: impl Into<String>,
+        reader: impl Reader + 'a,
+        recording: &'a Recording,
+        bar: Option<Bar>,
+    ) -> Entry<'a> {
+        Entry {
+            name: name.into(),
+            reader: Box::new(reader),
+            recording,
+            times: LENGTHS[0] / recording.message.len(),
+            bar,
+        }
     }
-    Recording { message, samples }
-}
 
-/// One way to read a whole recording in blocks: it leaves the events in the
-/// list, one call's behind the other's, and returns how many there are.
-trait Receiver {
-    fn read(&self, samples: &[i16], events: &mut [u16]) -> usize;
-}
-
-/// Reads all blocks, each from the state that the one before it gave. `block`
-/// answers with the number, the count and the state.
-fn read_all<S>(
-    mut state: S,
-    samples: &[i16],
-    events: &mut [u16],
-    block: impl Fn(S, &[i16], &mut [u16]) -> (u8, usize, S),
-) -> usize {
-    let mut count = 0;
-    for samples in samples.chunks(BLOCK) {
-        let (number, more, next) = block(state, samples, &mut events[count..]);
-        assert_eq!(number, 0);
-        count += more;
-        state = next;
+    /// The time of all readings, and the characters of the last.
+    fn read(&self) -> Reading {
+        let readings = (0..self.times).map(|_| self.reader.read(self.recording));
+        let both = |a: Reading, b: Reading| Reading {
+            time: a.time + b.time,
+            ..b
+        };
+        readings.reduce(both).expect("there is a reading")
     }
-    count
-}
 
-struct Library;
-
-impl Receiver for Library {
-    fn read(&self, samples: &[i16], events: &mut [u16]) -> usize {
-        let (_, state) = library::receiver_open(BAND);
-        read_all(state, samples, events, |state, samples, events| {
-            let answer = library::receiver_block(state, samples, events);
-            (answer.number, answer.count, answer.state)
-        })
+    fn row(&self, reading: Reading) -> Row {
+        let samples = self.times * self.recording.samples.len();
+        Row {
+            name: self.name.clone(),
+            speed: samples as f64 / reading.time.as_secs_f64(),
+            bar: self.bar,
+            score: Score::new(&self.recording.message, &reading.characters),
+        }
     }
 }
 
-struct Peer<'a> {
+/// The library is the first, since the ratios are to it.
+fn entries<'a>(
     sines: &'a Sines,
-    block: fn(&Sines, State, &[i16], &mut [u16]) -> Answer,
-}
-
-impl Receiver for Peer<'_> {
-    fn read(&self, samples: &[i16], events: &mut [u16]) -> usize {
-        let (_, state) = receiver::open(BAND);
-        read_all(state, samples, events, |state, samples, events| {
-            let answer = (self.block)(self.sines, state, samples, events);
-            (answer.number, answer.count, answer.state)
-        })
+    [long, shorter @ ..]: &'a [Recording; LENGTHS.len()],
+    folder: &Path,
+) -> Vec<Entry<'a>> {
+    let mut entries = vec![Entry::new("library", readers::library(), long, None)];
+    entries.extend(shorter.iter().map(|recording| {
+        let name = format!("library, {} characters", recording.message.len());
+        Entry::new(name, readers::library(), recording, Some(GROWTH))
+    }));
+    let mut peer = |name, block, bar| {
+        let reader = readers::reference(sines, block);
+        entries.push(Entry::new(name, reader, long, Some(bar)));
+    };
+    peer("in-place loop", in_place::block, IN_PLACE);
+    peer("shifted-window loop", shifted_window::block, SHIFTED_WINDOW);
+    #[cfg(feature = "spandsp")]
+    entries.push(Entry::new("spandsp", spandsp::Spandsp, long, Some(OTHERS)));
+    if minimodem::is_installed() {
+        let reader = Minimodem::new(long, folder);
+        entries.push(Entry::new("minimodem", reader, long, Some(OTHERS)));
     }
+    entries
 }
 
-/// How long the receiver takes for the recording, whose characters it must tell.
-fn time(receiver: &dyn Receiver, recording: &Recording) -> Duration {
-    let Recording { message, samples } = recording;
-    // The last call still gets as many places as a whole block needs.
-    let mut events = vec![u16::MAX; message.len() + places_needed(BLOCK)];
-    let start = Instant::now();
-    let count = receiver.read(samples, &mut events);
-    let time = start.elapsed();
-    let characters = message.iter().map(|&byte| u16::from(byte));
-    let told = events[..count].iter().copied();
-    assert!(told.eq(characters), "the events are not the characters");
-    time
-}
-
-/// The best time of each receiver. They take turns, so that whatever else the
-/// machine does meets all of them.
-fn best(receivers: [&dyn Receiver; 3], recording: &Recording) -> [Duration; 3] {
-    let mut best = [Duration::MAX; 3];
-    for _ in 0..ROUNDS {
-        for (receiver, best) in receivers.iter().zip(&mut best) {
-            *best = time(*receiver, recording).min(*best);
+/// Each entry's best time. They take turns, so that whatever else the machine
+/// does meets all of them.
+fn best(entries: &[Entry]) -> Vec<Reading> {
+    let mut best: Vec<Reading> = entries.iter().map(Entry::read).collect();
+    for _ in 1..ROUNDS {
+        for (entry, best) in entries.iter().zip(&mut best) {
+            best.time = entry.read().time.min(best.time);
         }
     }
     best
 }
 
-/// The time for the long recording over that for the short one read as many
-/// times as it is shorter, so that both take equally long; the best of each.
-fn growth(receiver: &dyn Receiver, short: &Recording, long: &Recording) -> f64 {
-    let [mut once, mut repeated] = [Duration::MAX; 2];
-    for _ in 0..GROWTH_ROUNDS {
-        once = time(receiver, long).min(once);
-        let times = (0..TIMES).map(|_| time(receiver, short));
-        repeated = times.sum::<Duration>().min(repeated);
-    }
-    once.as_secs_f64() / repeated.as_secs_f64()
+/// Prints the table of a band, and returns whether each row keeps its bar.
+fn measure(sines: &Sines, band: u8, folder: &Path) -> bool {
+    let recordings = LENGTHS.map(|characters| Recording::new(sines, band, characters));
+    let entries = entries(sines, &recordings, folder);
+    let best = best(&entries);
+    let rows: Vec<Row> = entries.iter().zip(best).map(|(e, b)| e.row(b)).collect();
+    table::print(&format!("band {band}"), &rows)
 }
 
-/// Prints a ratio with its bar, and returns whether it keeps it.
-fn keeps(what: &str, ratio: f64, least: f64, most: f64) -> bool {
-    let kept = (least..=most).contains(&ratio);
-    let bar = if least > 0.0 {
-        format!("{least} to {most}")
+fn say_what_is_measured() {
+    let characters = LENGTHS[0];
+    println!(
+        "{characters} random characters, each sample altered by -{DISTURBANCE} to {DISTURBANCE} \
+         at random (seed {SEED})"
+    );
+    println!(
+        "speeds in CPU time, the best of {ROUNDS} rounds in which all take turns; \
+         blocks of {BLOCK} samples"
+    );
+    println!();
+}
+
+/// What the time of a peer is that of, or how to have the peer.
+fn say_what_peers_do() {
+    if cfg!(feature = "spandsp") {
+        println!("spandsp: fsk_rx with async_rx, and the preset of the band times 8000/9600");
     } else {
-        format!("at most {most}")
-    };
-    let verdict = if kept { "ok" } else { "missed" };
-    println!("{what:<34}{ratio:>8.3}   {bar:<12} {verdict}");
-    kept
+        println!("spandsp: not installed; apt-get install libspandsp-dev");
+    }
+    if minimodem::is_installed() {
+        println!("minimodem: its whole process, which reads a WAV file and writes each character");
+    } else {
+        println!("minimodem: not installed; apt-get install minimodem");
+    }
 }
 
 fn main() -> ExitCode {
+    let Some(folder) = env::args_os().nth(1) else {
+        eprintln!("a folder for a sound file is needed; `run` makes one");
+        return ExitCode::from(2);
+    };
     let sines = Sines::new();
-    let short = recording(&sines, CHARACTERS, BLOCKS);
-    let long = recording(&sines, TIMES * CHARACTERS, TIMES * BLOCKS);
-    let in_place = Peer {
-        sines: &sines,
-        block: in_place::block,
-    };
-    let shifted_window = Peer {
-        sines: &sines,
-        block: shifted_window::block,
-    };
-
-    println!("band {BAND}, seed {SEED}, disturbance -{DISTURBANCE} to {DISTURBANCE}");
-    println!("{CHARACTERS} characters and silence in {BLOCKS} blocks of {BLOCK} samples");
-    println!(
-        "one buffer of samples, and one of events for each reading, made before its clock starts"
-    );
-    println!("best of {ROUNDS} rounds, of {GROWTH_ROUNDS} for the growth");
-    println!();
-
-    let times = best([&Library, &in_place, &shifted_window], &short);
-    let [a, b, c] = times.map(|time| time.as_secs_f64() * 1e9 / short.samples.len() as f64);
-    println!("{:<34}{:>8}", "", "ns/sample");
-    println!("{:<34}{a:>8.2}", "a  library");
-    println!("{:<34}{b:>8.2}", "b  in-place loop");
-    println!("{:<34}{c:>8.2}", "c  shifted-window loop");
-    println!();
-
-    let mut kept = keeps("a/b", a / b, 0.0, 1.5);
-    kept &= keeps("a/c", a / c, 0.0, 0.5);
-    let what = format!("growth of a, {TIMES} times as long");
-    kept &= keeps(&what, growth(&Library, &short, &long), 0.8, 1.2);
-
-    if kept {
+    say_what_is_measured();
+    let measure = |band| measure(&sines, band, Path::new(&folder));
+    let kept = BANDS.map(measure);
+    say_what_peers_do();
+    if kept == [true; BANDS.len()] {
         ExitCode::SUCCESS
     } else {
         ExitCode::FAILURE

@@ -1,0 +1,87 @@
+//! What reads a recording, and the readers that take it block by block and
+//! answer as document 01 says: the library, and the loops of the reference.
+
+use crate::clock::{self, Of};
+use crate::recording::Recording;
+use reference::library;
+use reference::receiver::{self, places_needed, Answer, State, MOST_SAMPLES};
+use reference::sine::Sines;
+use std::time::Duration;
+
+/// The samples of one call: as many as there may be.
+pub const BLOCK: usize = MOST_SAMPLES;
+
+pub struct Reading {
+    pub time: Duration,
+    pub characters: Vec<u8>,
+}
+
+/// Reads a whole recording once. A reader in this process starts the clock with
+/// samples and buffers in memory.
+pub trait Reader {
+    fn read(&self, recording: &Recording) -> Reading;
+}
+
+/// How to open a band, and how to read a block: that gives the number, the
+/// count and the next state.
+struct Blocks<S, B> {
+    open: fn(u8) -> (u8, S),
+    block: B,
+}
+
+impl<S, B: Fn(S, &[i16], &mut [u16]) -> (u8, usize, S)> Blocks<S, B> {
+    /// Leaves the events in the list, one call's behind the other's, and
+    /// returns how many there are.
+    fn read_all(&self, band: u8, samples: &[i16], events: &mut [u16]) -> usize {
+        let (number, mut state) = (self.open)(band);
+        assert_eq!(number, 0);
+        let mut count = 0;
+        for samples in samples.chunks(BLOCK) {
+            let (number, more, next) = (self.block)(state, samples, &mut events[count..]);
+            assert_eq!(number, 0);
+            count += more;
+            state = next;
+        }
+        count
+    }
+}
+
+impl<S, B: Fn(S, &[i16], &mut [u16]) -> (u8, usize, S)> Reader for Blocks<S, B> {
+    /// The events must be the characters sent.
+    fn read(&self, recording: &Recording) -> Reading {
+        let message = &recording.message;
+        // The last call still gets as many places as a whole block needs.
+        let mut events = vec![u16::MAX; message.len() + places_needed(BLOCK)];
+        let (time, count) = clock::timed(Of::ThisProcess, || {
+            self.read_all(recording.band, &recording.samples, &mut events)
+        });
+        let character = |&event: &u16| u8::try_from(event).expect("an event is a fault");
+        let characters: Vec<u8> = events[..count].iter().map(character).collect();
+        assert!(characters == *message, "the events are not the characters");
+        Reading { time, characters }
+    }
+}
+
+pub fn library() -> impl Reader {
+    Blocks {
+        open: library::receiver_open,
+        block: |state, samples: &[i16], events: &mut [u16]| {
+            let answer = library::receiver_block(state, samples, events);
+            (answer.number, answer.count, answer.state)
+        },
+    }
+}
+
+/// A block call of the reference.
+pub fn reference(
+    sines: &Sines,
+    block: fn(&Sines, State, &[i16], &mut [u16]) -> Answer,
+) -> impl Reader + '_ {
+    Blocks {
+        open: receiver::open,
+        block: move |state, samples: &[i16], events: &mut [u16]| {
+            let answer = block(sines, state, samples, events);
+            (answer.number, answer.count, answer.state)
+        },
+    }
+}
