@@ -4,15 +4,15 @@ use mathlib.Core.Path.{_≡_, sym, ap, ap₂, _∙_}
 use mathlib.Core.Bool.{true}
 use mathlib.Core.List.{List, _++_}
 use mathlib.Mathlib.Data.Bool.Basic.{and-intro}
-use Prim.Native.Nat.{ℕ, _+_, _-_, _<_, _≤_, min}
+use Prim.Native.Nat.{ℕ, _+_, _-_, _≤_, min}
 use native.Mathlib.Nat.{zero-add}
 use native.Mathlib.Omega.{arith}
 use borrow.Author.Tests.{lt-ltb, le-ltb}
 use lib.IntN.{ℤ}
-use lib.ListN.{length, take, drop, length-append, length-drop}
-use lib.Seq.{sets, length-sets, length-take-le, take-all, take-at, drop-append-le, drop-append-add}
+use lib.ListN.{length, take, drop, length-append}
+use lib.Seq.{sets, length-sets, take-all, drop-append-le, drop-append-add}
 use Rattle.integers.proofs.Tests.{lt-or-le}
-use Rattle.integers.proofs.Lists.{sets-append, sets-front, sets-whole, drop-take}
+use Rattle.integers.proofs.Lists.{sets-append, sets-front, drop-take}
 use Rattle.calls.specs.Outcome.{outcome, accepted}
 use Rattle.calls.proofs.Runs.{run-laws}
 use Rattle.tones.specs.Bands.{tonesOf}
@@ -28,52 +28,6 @@ use Rattle.receiver.specs.Calls.{isControl, inRange, placesFor}
 use Rattle.receiver.proofs.Ranges.{in-range, follow-kept}
 use Rattle.receiver.proofs.Counting.{events-few}
 use Rattle.receiver.proofs.Windows.{decisions-seam, decisionsOver, by-windows, band-after, window-after}
-
--- ---- the lists that the code makes
-
--- the head: the window and the first n samples, stored one behind the other
-pub head-is : (zeros old xs head : List ℤ) (n : ℕ) → length zeros ≡ 64 → length old ≡ 32 → n ≤ 31 → n ≤ length xs
-    → head ≡ sets (sets zeros 0 old) 32 (take n xs) → (length head ≡ 64) × (take (32 + n) head ≡ old ++ take n xs)
-head-is zeros old xs head n lz lo h l e = (ap length stored ∙ long, ap (take (32 + n)) stored ∙ take-at (old ++ take n xs) _ (32 + n) front)
-  where
-    short : length (take n xs) ≡ n
-    short = length-take-le n xs l
-
-    front : length (old ++ take n xs) ≡ 32 + n
-    front = length-append old (take n xs) ∙ ap₂ (λ (a b : ℕ). a + b) lo short
-
-    stored : head ≡ (old ++ take n xs) ++ drop (length (old ++ take n xs)) zeros
-    stored =
-        let z : 0 + length old ≡ 32 = omega arith in
-        e
-        ∙ ap (λ (k : ℕ). sets (sets zeros 0 old) k (take n xs)) (sym z)
-        ∙ sym (sets-append zeros 0 old (take n xs))
-        ∙ sets-front (old ++ take n xs) zeros (omega (arith, front))
-
-    long : length ((old ++ take n xs) ++ drop (length (old ++ take n xs)) zeros) ≡ 64
-    long =
-        omega (
-          arith,
-          length-append (old ++ take n xs) (drop (length (old ++ take n xs)) zeros),
-          length-drop (length (old ++ take n xs)) zeros,
-          front,
-        )
-
--- the last window, stored over 32 zeros
-module _ (head xs window zeros : List ℤ) (lz : length zeros ≡ 32) where
-  pub last-short : length xs < 32 → length head ≡ 64 → window ≡ sets zeros 0 (take (length xs + 32 - length xs) (drop (length xs) head)) → window ≡ lastWindow head xs
-  last-short h lh e =
-      let k : length xs + 32 - length xs ≡ 32 = omega arith in
-      let l : length (take (length xs + 32 - length xs) (drop (length xs) head)) ≡ length zeros =
-      length-take-le (length xs + 32 - length xs) (drop (length xs) head) (omega (arith, length-drop (length xs) head)) ∙ omega arith in
-      rw (lt-ltb (length xs) 32 h) (e ∙ sets-whole (take (length xs + 32 - length xs) (drop (length xs) head)) zeros l ∙ ap (λ (m : ℕ). take m (drop (length xs) head)) k)
-
-  pub last-long : 32 ≤ length xs → window ≡ sets zeros 0 (take (length xs - (length xs - 32)) (drop (length xs - 32) xs)) → window ≡ lastWindow head xs
-  last-long h e =
-      let l : length (drop (length xs - 32) xs) ≡ length zeros = omega (arith, length-drop (length xs - 32) xs) in
-      let t : take (length xs - (length xs - 32)) (drop (length xs - 32) xs) ≡ drop (length xs - 32) xs =
-      take-all (length xs - (length xs - 32)) (drop (length xs - 32) xs) (omega arith) in
-      rw (le-ltb (length xs) 32 h) (e ∙ ap (sets zeros 0) t ∙ sets-whole (drop (length xs - 32) xs) zeros l)
 
 -- ---- a block that is accepted
 

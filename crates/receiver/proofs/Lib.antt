@@ -5,6 +5,7 @@ pub mod Ranges
 pub mod Counting
 pub mod Windows
 pub mod Scanning
+pub mod Heads
 pub mod Blocks
 pub mod Calls
 pub mod Lists

@@ -6,7 +6,7 @@ use borrow.Author.Needs.{needs}
 use lib.IntN.{ℤ, pos}
 use lib.ListN.{take, replicate}
 use lib.Seq.{sets, length-take-le}
-use Rattle.receiver.proofs.Blocks.{head-is}
+use Rattle.receiver.proofs.Heads.{head-is}
 use Rattle.receiver.proofs.block.joined.Statement.{statement}
 use Rattle.receiver.proofs.block.joined.Tie as tie
 

@@ -5,7 +5,7 @@ use native.Mathlib.Omega.{arith}
 use borrow.Author.Needs.{needs}
 use lib.IntN.{pos}
 use lib.ListN.{replicate}
-use Rattle.receiver.proofs.Blocks.{last-short, last-long}
+use Rattle.receiver.proofs.Heads.{last-short, last-long}
 use Rattle.receiver.proofs.block.last_window.Statement.{statement}
 use Rattle.receiver.proofs.block.last_window.Tie as tie
 
