@@ -19,7 +19,7 @@ use Rattle.receiver.specs.declared.Stage.the-variants.{Searching, Waitin
 use Rattle.receiver.specs.declared.Receiver.{Receiver}
 use Rattle.receiver.specs.Step.{numbers, runAfter, taken, nextOf, Control, controlAfter, reported, controlOf, decisionAt, stepOf, eventsAt, eventsAfter}
 use Rattle.receiver.specs.Calls.{isStage, inRange, placesFor}
-use Rattle.receiver.proofs.Ranges.{wait-low, stage-wait, in-control, in-range}
+use Rattle.receiver.proofs.Ranges.{wait-low, stage-wait, control-stage, in-range}
 
 -- 49 less the samples that are still to come before there can be an event
 abbrev progress : Stage → ℕ
@@ -73,4 +73,4 @@ progress-most (Waiting wait slot byte) h =
 
 -- from a state in its ranges, n samples bring at most n / 48 + 1 events
 pub events-few : (s : Receiver) (xs : List ℤ) → inRange s ≡ true → length (eventsAfter s xs) ≤ placesFor (length xs)
-events-few s xs h = omega (arith, events-slow s xs, progress-most (s .stage) (in-control (controlOf s) (in-range s h .control) .stage))
+events-few s xs h = omega (arith, events-slow s xs, progress-most (s .stage) (control-stage (controlOf s) (in-range s h .control)))

@@ -1,7 +1,7 @@
 -- What the range tests say, and that the step rule keeps the ranges.
 -- Assumes nothing.
 use mathlib.Core.Path.{_≡_, refl, ap, _∙_}
-use mathlib.Core.Bool.{Bool, true, false, not, cond, _&&_}
+use mathlib.Core.Bool.{Bool, true, not, cond, _&&_}
 use mathlib.Core.List.{List, [], _∷_}
 use mathlib.Mathlib.Data.Bool.Basic.{and-elim-left, and-elim-right, and-intro}
 use Prim.Native.Nat.{ℕ, suc, _+_, _-_, _*_, _^_, _<_, _≤_, min}
@@ -107,17 +107,9 @@ next-kept (Waiting wait slot byte) run d h =
 
 -- ---- run and stage
 
-pub record InControl (c : Control) : Type 0 where
-  pub run : c .run ≤ 32
-  pub stage : isStage (c .stage) ≡ true
-
-pub in-control : (c : Control) → isControl c ≡ true → InControl c
+pub control-stage : (c : Control) → isControl c ≡ true → isStage (c .stage) ≡ true
 unfolding isControl
-in-control c h =
-    record {
-      run = leb-true (c .run) 32 (and-elim-left (leb (c .run) 32) (isStage (c .stage)) h);
-      stage = and-elim-right (leb (c .run) 32) (isStage (c .stage)) h;
-    }
+control-stage c h = and-elim-right (leb (c .run) 32) (isStage (c .stage)) h
 
 run-kept : (run : ℕ) (good : Bool) → runAfter run good ≤ 32
 run-kept run good = cond-case (λ (n : ℕ). n ≤ 32) good (min (run + 1) 32) 0 (omega arith) (omega arith)
@@ -126,7 +118,7 @@ pub control-kept : (c : Control) (d : Decision) → isControl c ≡ true → isC
 unfolding isControl controlAfter
 control-kept c d h =
     let run : ℕ = runAfter (c .run) (d .good) in
-    and-intro (le-leb run 32 (run-kept (c .run) (d .good))) (next-kept (c .stage) run d (in-control c h .stage))
+    and-intro (le-leb run 32 (run-kept (c .run) (d .good))) (next-kept (c .stage) run d (control-stage c h))
 
 pub follow-kept : (c : Control) (ds : List Decision) → isControl c ≡ true → isControl (follow c ds) ≡ true
 unfolding after
@@ -165,22 +157,6 @@ unfolding after areBetween
 state-kept s [] h l = h
 state-kept s (x ∷ xs) h l =
     state-kept (stepOf s x) xs (step-kept s x h (and-elim-left (isSample x) (areSamples xs) l)) (and-elim-right (isSample x) (areSamples xs) l)
-
--- ---- the tests one by one, as the code makes them
-
-module _ (s : Receiver) where
-  pub range-band : isBand (s .band) ≡ false → inRange s ≡ false
-  unfolding inRange
-  range-band e = rw e
-
-  module _ (b : isBand (s .band) ≡ true) where
-    pub range-window : areSamples (s .window) ≡ false → inRange s ≡ false
-    unfolding inRange
-    range-window e = rw (b, e)
-
-    pub range-control : areSamples (s .window) ≡ true → inRange s ≡ isControl (controlOf s)
-    unfolding inRange
-    range-control e = rw (b, e)
 
 -- ---- an opening of a band gives its fresh state, which is in its ranges
 

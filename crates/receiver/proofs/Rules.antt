@@ -15,14 +15,8 @@ use Rattle.receiver.specs.Step.{carrierLost, noStop, numbers, quiet, rep
 
 -- ---- the run
 
-pub run-good : (run : ℕ) → run < 32 → runAfter run true ≡ run + 1
-run-good run h = omega arith
-
 pub run-full : (run : ℕ) → 32 ≤ run → runAfter run true ≡ 32
 run-full run h = omega arith
-
-pub run-lost : (run : ℕ) → runAfter run false ≡ 0
-run-lost run = refl
 
 -- ---- a slot is taken
 

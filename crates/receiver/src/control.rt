@@ -12,7 +12,6 @@ use super::Stage;
 
 // The run after a sample.
 pub(crate) fn run_after(run: u8, good: bool) -> u8
-    requires { ⌜ run ≤ 32 ⌝ }
     ensures { λ r. ⌜ r ≡ runAfter run good ⌝ }
 {
     if good {

@@ -5,7 +5,7 @@ use mathlib.Core.Bool.{true}
 use borrow.Author.Needs.{needs}
 use borrow.Author.Tests.{not-true, not-false}
 use Rattle.tones.specs.Bands.{isBand}
-use Rattle.receiver.proofs.Ranges.{range-band, range-window, range-control}
+use Rattle.receiver.specs.Calls.{inRange}
 use Rattle.receiver.proofs.Receiver.in_range.Statement.{statement}
 use Rattle.receiver.proofs.Receiver.in_range.Tie as tie
 
@@ -26,16 +26,18 @@ banded : (c : tie.Else1) → isBand (c .before .before .before .args .self .band
 banded c = sym (c .before .is-band .ensures) ∙ not-false (c .before .is-band .result) (c .if1 .left)
 
 returns : tie.Need-returns
-returns c = sym (range-band _ (sym (c .before .is-band .ensures) ∙ not-true (c .before .is-band .result) (c .if1 .taken)))
+unfolding inRange
+returns c = rw (sym (c .before .is-band .ensures) ∙ not-true (c .before .is-band .result) (c .if1 .taken))
 
 returns-2 : tie.Need-returns-2
-returns-2 c =
-    sym (range-window _ (banded (c .before .before .before)) (sym (c .before .are-samples .ensures) ∙ not-true (c .before .are-samples .result) (c .if2 .taken)))
+unfolding inRange
+returns-2 c = rw (banded (c .before .before .before), sym (c .before .are-samples .ensures) ∙ not-true (c .before .are-samples .result) (c .if2 .taken))
 
 returns-3 : tie.Need-returns-3
+unfolding inRange
 returns-3 c =
-    c .is-control .ensures
-    ∙ sym (range-control _ (banded (c .before .before .before .before)) (sym (c .before .before .are-samples .ensures) ∙ not-false (c .before .before .are-samples .result) (c .before .if2 .left)))
+    let s = c .before .before in
+    rw (banded (s .before .before), sym (s .are-samples .ensures) ∙ not-false (s .are-samples .result) (c .before .if2 .left)) (c .is-control .ensures)
 
 pub in-range-spec : {M : Type 1} → statement M
 in-range-spec = tie.close (tie.spec is-band-requires slice-aggregate-are-samples are-samples-requires is-control-requires returns returns-2 returns-3)

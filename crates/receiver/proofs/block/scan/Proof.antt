@@ -10,7 +10,7 @@ use lib.ListN.{length}
 use Rattle.receiver.specs.Energy.{decisionBy}
 use Rattle.receiver.specs.Step.{quiet}
 use Rattle.receiver.proofs.Rules.{wait-over}
-use Rattle.receiver.proofs.Ranges.{in-control}
+use Rattle.receiver.proofs.Ranges.{control-stage}
 use Rattle.receiver.proofs.Scanning.{Scanning, scanning-start, scanning-room, scanning-more, scanning-end, part-window}
 use Rattle.receiver.proofs.block.scan.Statement.{statement}
 use Rattle.receiver.proofs.block.scan.Tie as tie
@@ -51,13 +51,13 @@ decide-requires c κs =
     (part-window (s .args .source .now) (c .before .before .loop .k) (c .before .loop-test .taken) (s .pre .0), s .pre .1 .0)
 
 run-after-requires : tie.Need-run-after-requires Inv-loop μ-loop
-run-after-requires c κs = in-control _ (c .before .before .before .loop .inv .control) .run
+run-after-requires c κs = tt
 
 is-due-requires : tie.Need-is-due-requires Inv-loop μ-loop
 is-due-requires c κs = tt
 
 take-requires : tie.Need-take-requires Inv-loop μ-loop
-take-requires c κs = in-control _ (c .before .before .before .before .before .before .loop .inv .control) .stage
+take-requires c κs = control-stage _ (c .before .before .before .before .before .before .loop .inv .control)
 
 put-requires : tie.Need-put-requires Inv-loop μ-loop
 put-requires c κs =

@@ -1,8 +1,6 @@
 -- `receiver::control::run_after` meets its contract.
 -- Assumes nothing.
-use mathlib.Core.Path.{sym}
 use native.Mathlib.Omega.{arith}
-use Rattle.receiver.proofs.Rules.{run-good, run-full, run-lost}
 use Rattle.receiver.proofs.control.run_after.Statement.{statement}
 use Rattle.receiver.proofs.control.run_after.Tie as tie
 
@@ -10,13 +8,13 @@ add-result : tie.Need-add-result
 add-result c = omega arith
 
 returns : tie.Need-returns
-returns c = rw (c .before .if1 .taken) (sym (run-good _ (c .if2 .taken)))
+returns c = rw (c .before .if1 .taken) (omega arith)
 
 returns-2 : tie.Need-returns-2
-returns-2 c = rw (c .before .if1 .taken) (sym (run-full _ (c .if2 .left)))
+returns-2 c = rw (c .before .if1 .taken) (omega arith)
 
 returns-3 : tie.Need-returns-3
-returns-3 c = rw (c .if1 .left) (sym (run-lost (c .before .args .run)))
+returns-3 c = rw (c .if1 .left)
 
 pub run-after-spec : {M : Type 1} → statement M
 run-after-spec = tie.close (tie.spec add-result returns returns-2 returns-3)
