@@ -4,13 +4,15 @@
 use mathlib.Core.Path.{_≡_, refl, sym, ap, _∙_}
 use mathlib.Core.List.{List, [], _∷_, _++_}
 use Prim.Native.Nat.{ℕ, zero, suc, _+_, _*_, _<_, _≤_, zero-le}
-use native.Mathlib.Nat.{le-refl, le-trans, not-suc-le-zero, le-of-suc-le-suc, add-le-add, mul-le-mul-right, mul-add}
+use native.Mathlib.Nat.{le-trans, not-suc-le-zero, le-of-suc-le-suc, add-le-add, mul-le-mul-right, mul-add}
+use native.Mathlib.Omega.{arith}
 use lib.IntN.{ℤ, pos, negℤ, natAbs, _+ℤ_, _-ℤ_, _*ℤ_, negℤ-+ℤ, +ℤ-comm, +ℤ-invr, +ℤ-negℤ-cancel}
 use lib.ListN.{length, getD, take, drop}
 use Rattle.integers.specs.Sums.{size, dot, Bounded}
 use Rattle.integers.specs.Near.{altered, Near, none, more}
 use Rattle.integers.proofs.Ring.{+ℤ-swap, +ℤ-*ℤ, negℤ-*ℤ}
 use Rattle.integers.proofs.Size.{natAbs-+ℤ, natAbs-*ℤ, natAbs-near}
+use Rattle.integers.proofs.Sums.{bounded-none, bounded-more, bounded-rest}
 
 -- ---- numbers that are added place by place
 
@@ -60,7 +62,7 @@ module _ {n : ℕ} where
   unfolding altered
   near-altered [] ds b = none
   near-altered (x ∷ xs) [] b = near-self (x ∷ xs)
-  near-altered (x ∷ xs) (d ∷ ds) b = more (changed x d (b .at 0)) (near-altered xs ds (record { at = λ k. b .at (suc k) }))
+  near-altered (x ∷ xs) (d ∷ ds) b = more (changed x d (b .at 0)) (near-altered xs ds (bounded-rest b))
 
   pub near-append : {xs ys us vs : List ℤ} → Near n xs ys → Near n us vs → Near n (xs ++ us) (ys ++ vs)
   near-append none k = k
@@ -77,13 +79,9 @@ module _ {n : ℕ} where
   near-drop (suc k) (more h r) = near-drop k r
 
 -- and no number is larger than it was by more than n
-near-at : {n : ℕ} {xs ys : List ℤ} → Near n xs ys → (k : ℕ) → natAbs (getD ys k (pos 0)) ≤ natAbs (getD xs k (pos 0)) + n
-near-at none k = zero-le
-near-at (more {x} {y} h r) zero = natAbs-near x y h .1
-near-at (more h r) (suc k) = near-at r k
-
 pub near-bounded : {m n : ℕ} {xs ys : List ℤ} → Near n xs ys → Bounded m xs → Bounded (m + n) ys
-near-bounded {n = n} r b = record { at = λ k. le-trans (near-at r k) (add-le-add (b .at k) (le-refl n)) }
+near-bounded none b = bounded-none
+near-bounded (more {x} {y} h r) b = bounded-more (omega (arith, natAbs-near x y h .1, b .at 0)) (near-bounded r (bounded-rest b))
 
 -- one place: d of at most n with the weight w, before a rest of at most n times m
 place : (n : ℕ) (d w r : ℤ) (m : ℕ) → natAbs d ≤ n → natAbs r ≤ n * m → natAbs (d *ℤ w +ℤ r) ≤ n * (natAbs w + m)

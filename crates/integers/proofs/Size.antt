@@ -55,7 +55,7 @@ natAbs-*ℤ (negsuc a) (pos b) = natAbs-negℤ (pos (suc a * b))
 natAbs-*ℤ (negsuc a) (negsuc b) = refl
 
 -- `mag` is what a signed width bounds: n of n, and n of -n - 1
-pub mag-natAbs : (z : ℤ) → mag z ≤ natAbs z
+mag-natAbs : (z : ℤ) → mag z ≤ natAbs z
 mag-natAbs (pos n) = le-refl n
 mag-natAbs (negsuc n) = le-suc n
 

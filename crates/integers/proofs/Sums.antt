@@ -1,4 +1,5 @@
--- Laws of sums: a sum of products as a dot product, and a dot product computed place by place and of opposite numbers.
+-- Laws of sums: a sum of products as a dot product, and a dot product computed place by place and of opposite numbers. And how a
+-- bound of a list's numbers is made and used.
 -- Assumes nothing.
 use mathlib.Core.Path.{_≡_, refl, sym, ap, ap₂, _∙_}
 use mathlib.Core.List.{List, [], _∷_, _++_, map}
@@ -55,18 +56,24 @@ dot-next xs ws k a h l =
 
 -- ---- bounds of lists
 
-pub bounded-append : {n : ℕ} (xs ys : List ℤ) → Bounded n xs → Bounded n ys → Bounded n (xs ++ ys)
-bounded-append {n} xs ys b c = record { at = λ k. entry xs b k }
-  where
-    entry : (l : List ℤ) → Bounded n l → (k : ℕ) → natAbs (getD (l ++ ys) k (pos 0)) ≤ n
-    entry [] b k = c .at k
-    entry (x ∷ l) b zero = b .at 0
-    entry (x ∷ l) b (suc k) = entry l (record { at = λ i. b .at (suc i) }) k
+module _ {n : ℕ} where
+  pub bounded-none : Bounded n []
+  bounded-none = record { at = λ k. zero-le }
+
+  pub bounded-more : {x : ℤ} {xs : List ℤ} → natAbs x ≤ n → Bounded n xs → Bounded n (x ∷ xs)
+  bounded-more {x} {xs} h b = record { at = entry }
+    where
+      entry : (k : ℕ) → natAbs (getD (x ∷ xs) k (pos 0)) ≤ n
+      entry zero = h
+      entry (suc k) = b .at k
+
+  pub bounded-rest : {x : ℤ} {xs : List ℤ} → Bounded n (x ∷ xs) → Bounded n xs
+  bounded-rest b = record { at = λ k. b .at (suc k) }
+
+  pub bounded-append : (xs ys : List ℤ) → Bounded n xs → Bounded n ys → Bounded n (xs ++ ys)
+  bounded-append [] ys b c = c
+  bounded-append (x ∷ xs) ys b c = bounded-more (b .at 0) (bounded-append xs ys (bounded-rest b) c)
 
 pub bounded-zeros : (n m : ℕ) → Bounded n (replicate m (pos 0))
-bounded-zeros n m = record { at = entry m }
-  where
-    entry : (m k : ℕ) → natAbs (getD (replicate m (pos 0)) k (pos 0)) ≤ n
-    entry zero k = zero-le
-    entry (suc m) zero = zero-le
-    entry (suc m) (suc k) = entry m k
+bounded-zeros n zero = bounded-none
+bounded-zeros n (suc m) = bounded-more zero-le (bounded-zeros n m)

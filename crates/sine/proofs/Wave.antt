@@ -3,12 +3,13 @@
 -- Assumes nothing.
 use mathlib.Core.Path.{_≡_, refl, _∙_, ap, ap₂}
 use mathlib.Core.List.{List, [], _∷_, map}
-use Prim.Native.Nat.{ℕ, zero, suc, _+_, _*_, _%_, _<_, _≤_, zero-le}
+use Prim.Native.Nat.{ℕ, zero, suc, _+_, _*_, _%_, _<_}
 use native.Mathlib.Nat.{suc-mul, not-suc-le-zero, le-of-suc-le-suc}
 use native.Mathlib.Omega.{arith}
-use lib.IntN.{ℤ, pos, negℤ, natAbs}
+use lib.IntN.{ℤ, pos, negℤ}
 use lib.ListN.{length, getD}
 use Rattle.integers.specs.Sums.{Bounded}
+use Rattle.integers.proofs.Sums.{bounded-none, bounded-more}
 use Rattle.sine.specs.Sine.{S}
 use Rattle.sine.specs.Wave.{wave}
 use Rattle.sine.proofs.Laws.{S-same, S-opposite, S-bound}
@@ -48,11 +49,7 @@ wave-opposite (suc n) s p =
     let e : p + 960 + s ≡ p + s + 960 = omega arith in
     ap₂ (λ (x : ℤ) (xs : List ℤ). x ∷ xs) (S-opposite p) (ap (wave n s) e ∙ wave-opposite n s (p + s))
 
-entry-bound : (n s p k : ℕ) → natAbs (getD (wave n s p) k (pos 0)) ≤ 6000
-unfolding wave
-entry-bound zero s p k = zero-le
-entry-bound (suc n) s p zero = S-bound p
-entry-bound (suc n) s p (suc k) = entry-bound n s (p + s) k
-
 pub wave-bound : (n s p : ℕ) → Bounded 6000 (wave n s p)
-wave-bound n s p = record { at = entry-bound n s p }
+unfolding wave
+wave-bound zero s p = bounded-none
+wave-bound (suc n) s p = bounded-more (S-bound p) (wave-bound n s (p + s))

@@ -4,7 +4,7 @@ use mathlib.Core.Path.{_≡_, refl, sym, ap, _∙_}
 use mathlib.Core.Bool.{Bool, true, _&&_, and-assoc, and-true}
 use mathlib.Core.List.{List, [], _∷_, _++_}
 use mathlib.Mathlib.Data.Bool.Basic.{and-elim-left, and-elim-right, and-intro}
-use Prim.Native.Nat.{ℕ, zero, suc, _+_, _<_, _≤_, zero-le}
+use Prim.Native.Nat.{ℕ, suc, _+_, _<_, _≤_}
 use native.Mathlib.Nat.{le-trans, le-of-suc-le-suc}
 use native.Mathlib.Numerals.{add-one}
 use native.Mathlib.Omega.{arith}
@@ -14,12 +14,13 @@ use lib.ListN.{length, getD, take, drop, take-append-drop, drop-of-length-le}
 use lib.Seq.{drop-cons}
 use lib.Signed.{leZ}
 use Rattle.integers.specs.Sums.{Bounded}
+use Rattle.integers.proofs.Sums.{bounded-none, bounded-more, bounded-rest}
 use Rattle.tones.specs.Samples.{isBetween, areBetween, areSamples}
 
 -- ---- parts
 
 module _ (low high : ℤ) where
-  pub between-append : (xs ys : List ℤ) → areBetween low high (xs ++ ys) ≡ (areBetween low high xs && areBetween low high ys)
+  between-append : (xs ys : List ℤ) → areBetween low high (xs ++ ys) ≡ (areBetween low high xs && areBetween low high ys)
   unfolding areBetween
   between-append [] ys = refl
   between-append (x ∷ xs) ys =
@@ -68,25 +69,22 @@ module _ (n : ℕ) where
   size (negsuc m) h =
       let l : m ≤ n = leb-true m n (and-elim-left (leZ (negsuc n) (negsuc m)) (leZ (negsuc m) (pos (suc n))) h) in omega arith
 
-  size-at : (xs : List ℤ) → allInside xs ≡ true → (k : ℕ) → natAbs (getD xs k (pos 0)) ≤ suc n
-  unfolding areBetween
-  size-at [] h k = zero-le
-  size-at (x ∷ xs) h zero = size x (and-elim-left (inside x) (allInside xs) h)
-  size-at (x ∷ xs) h (suc k) = size-at xs (and-elim-right (inside x) (allInside xs) h) k
-
   pub between-bound : (xs : List ℤ) → allInside xs ≡ true → Bounded (suc n) xs
-  between-bound xs h = record { at = size-at xs h }
+  unfolding areBetween
+  between-bound [] h = bounded-none
+  between-bound (x ∷ xs) h =
+      bounded-more (size x (and-elim-left (inside x) (allInside xs) h)) (between-bound xs (and-elim-right (inside x) (allInside xs) h))
 
   -- and numbers of that size are in the range
   small : (x : ℤ) → natAbs x ≤ suc n → inside x ≡ true
   small (pos m) h = le-leb m (suc n) h
   small (negsuc m) h = rw (le-leb m n (le-of-suc-le-suc h))
 
-  pub bounded-between : (xs : List ℤ) {m : ℕ} → m ≤ suc n → Bounded m xs → allInside xs ≡ true
+  bounded-between : (xs : List ℤ) {m : ℕ} → m ≤ suc n → Bounded m xs → allInside xs ≡ true
   unfolding areBetween
   bounded-between [] h b = refl
   bounded-between (x ∷ xs) h b =
-      and-intro (small x (le-trans (b .at 0) h)) (bounded-between xs h (record { at = λ k. b .at (suc k) }))
+      and-intro (small x (le-trans (b .at 0) h)) (bounded-between xs h (bounded-rest b))
 
 pub samples-bound : (xs : List ℤ) → areSamples xs ≡ true → Bounded 8191 xs
 samples-bound = between-bound 8190

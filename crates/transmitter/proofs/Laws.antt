@@ -2,14 +2,15 @@
 -- Assumes nothing.
 use mathlib.Core.Path.{_≡_, refl, _∙_, sym, ap}
 use mathlib.Core.List.{List, [], _∷_, _++_, append-assoc, append-nil}
-use Prim.Native.Nat.{ℕ, zero, suc, _+_, _*_, _/_, _%_, _^_, _<_, _≤_, zero-le}
+use Prim.Native.Nat.{ℕ, zero, suc, _+_, _*_, _/_, _%_, _^_, _<_}
 use native.Mathlib.Nat.{suc-mul, not-suc-le-zero, le-of-suc-le-suc}
 use native.Mathlib.Numerals.{one-add}
 use native.Mathlib.Omega.{arith}
-use lib.IntN.{ℤ, pos, natAbs}
+use lib.IntN.{ℤ, pos}
 use lib.ListN.{length, getD, take, replicate, length-append, length-replicate, List·getD-append}
 use lib.Pow.{shr-shr}
 use Rattle.integers.specs.Sums.{total, Bounded}
+use Rattle.integers.proofs.Sums.{bounded-none, bounded-more}
 use Rattle.sine.specs.Sine.{S}
 use Rattle.sine.specs.Wave.{wave}
 use Rattle.sine.proofs.Laws.{S-same, S-bound}
@@ -58,12 +59,8 @@ send-at p (s ∷ ss) (suc i) h =
 -- and none is larger than 6,000
 pub send-bound : (p : ℕ) (ss : List ℕ) → Bounded 6000 (send p ss)
 unfolding send
-send-bound p ss = record { at = entry p ss }
-  where
-    entry : (p : ℕ) (ss : List ℕ) (k : ℕ) → natAbs (getD (send p ss) k (pos 0)) ≤ 6000
-    entry p [] k = zero-le
-    entry p (s ∷ ss) zero = S-bound p
-    entry p (s ∷ ss) (suc k) = entry ((p + s) % 1920) ss k
+send-bound p [] = bounded-none
+send-bound p (s ∷ ss) = bounded-more (S-bound p) (send-bound ((p + s) % 1920) ss)
 
 -- a run of one step
 send-run : (n s p : ℕ) → send p (replicate n s) ≡ wave n s p
