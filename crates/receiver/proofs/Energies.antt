@@ -49,7 +49,7 @@ square : (z : ℤ) → z *ℤ z ≡ pos (natAbs z * natAbs z)
 square (pos n) = refl
 square (negsuc n) = refl
 
-pub energy-ℕ : (window : List ℤ) (t : ℕ) → energy window t ≡ pos (energyℕ window t)
+energy-ℕ : (window : List ℤ) (t : ℕ) → energy window t ≡ pos (energyℕ window t)
 unfolding energy energyℕ
 energy-ℕ window t = ap₂ (λ (a b : ℤ). a +ℤ b) (square (inPhase window t)) (square (quadrature window t))
 

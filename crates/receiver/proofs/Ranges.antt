@@ -95,7 +95,7 @@ taken-kept slot byte d h =
     (and-intro (wait-32 slot) (slot-next slot byte (d .space) nz (leb-true slot 8 l) (slot-below slot byte nz h))))
     (λ l. cond-case Kept (not (d .good)) _ _ refl (cond-case Kept (d .space) _ _ refl refl)))
 
-pub next-kept : (stage : Stage) (run : ℕ) (d : Decision) → isStage stage ≡ true → Kept (nextOf stage run d)
+next-kept : (stage : Stage) (run : ℕ) (d : Decision) → isStage stage ≡ true → Kept (nextOf stage run d)
 unfolding nextOf isStage isSlot
 next-kept Searching run d h = cond-case Kept (eqb run 32 && d .space) _ _ refl refl
 next-kept (Waiting wait slot byte) run d h =
