@@ -36,6 +36,7 @@ isWait wait slot = leb 1 wait && leb wait (cond (eqb slot 0) 16 32)
 unfoldable pub isSlot : ℕ → ℕ → Bool
 isSlot slot byte = leb slot 9 && cond (ltb slot 2) (eqb byte 0) (ltb byte (2 ^ (slot - 1)))
 
+-- searching has no field; waiting has a wait, a slot and a byte
 unfoldable pub isStage : Stage → Bool
 isStage Searching = true
 isStage (Waiting wait slot byte) = isWait wait slot && isSlot slot byte

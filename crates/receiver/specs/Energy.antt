@@ -45,6 +45,7 @@ larger a b = cond (ltZ a b) b a
 abbrev pub decided : ℤ → ℤ → Decision
 decided space mark = record { good = leZ (pos level) (larger space mark); space = ltZ mark space }
 
+-- the same from a window, for the tones t
 unfoldable pub decisionOf : Tones → List ℤ → Decision
 decisionOf t window = decided (energy window (t .space)) (energy window (t .mark))
 

@@ -20,7 +20,7 @@ use Rattle.receiver.specs.Energy.{decisionOf}
 
 -- ---- events
 
--- an event below 256 is a character
+-- an event below 256 is a character, 256 one without a stop bit, and 257 a lost carrier
 abbrev pub noStop : ℕ
 noStop = 256
 
@@ -63,6 +63,7 @@ dataTaken slot byte d =
 abbrev pub stopTaken : ℕ → Decision → Next
 stopTaken byte d = cond (not (d .good)) (report carrierLost) (cond (d .space) (report noStop) (report byte))
 
+-- by its number: 0 the start, 1 to 8 data, 9 the stop
 unfoldable pub taken : ℕ → ℕ → Decision → Next
 taken slot byte d = cond (eqb slot 0) (startTaken d) (cond (leb slot 8) (dataTaken slot byte d) (stopTaken byte d))
 
@@ -83,15 +84,18 @@ abbrev pub waitOver : Stage → Decision → Next
 waitOver Searching d = quiet Searching
 waitOver (Waiting wait slot byte) d = taken slot byte d
 
--- ---- what a decision moves: the run and the stage. To hold them together is ours.
+-- ---- what a decision does
 
+-- it moves the run and the stage; to hold them together is ours
 pub record Control : Type 0 where
   pub run : ℕ
   pub stage : Stage
 
+-- run and stage after it
 unfoldable pub controlAfter : Control → Decision → Control
 controlAfter c d = let run : ℕ = runAfter (c .run) (d .good) in record { run = run; stage = nextOf (c .stage) run d .stage }
 
+-- its events, one at most
 unfoldable pub reported : Control → Decision → List ℕ
 reported c d = numbers (nextOf (c .stage) (runAfter (c .run) (d .good)) d .event)
 
@@ -108,6 +112,7 @@ entered window x = drop 1 window ++ (x ∷ [])
 abbrev pub decisionAt : Receiver → ℤ → Decision
 decisionAt s x = decisionOf (tonesOf (s .band)) (entered (s .window) x)
 
+-- the state after the sample x
 unfoldable pub stepOf : Receiver → ℤ → Receiver
 stepOf s x =
     let c : Control = controlAfter (controlOf s) (decisionAt s x) in

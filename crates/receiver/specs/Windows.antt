@@ -26,6 +26,7 @@ reports = gives controlAfter reported
 
 -- ---- the code's progress through a block: run, stage and the count of events written
 
+-- its run and stage
 abbrev pub controlIn : Progress → Control
 controlIn p = record { run = p .run; stage = p .stage }
 

@@ -1,4 +1,4 @@
--- The front of a text.
+-- The front of a text, by which the names lines of a sheet are known (document 01, "Sheet and programs"). The definition is ours.
 -- Assumes nothing.
 use mathlib.Core.Bool.{Bool, true, false, _&&_}
 use mathlib.Core.List.{List, [], _∷_}
