@@ -1,29 +1,42 @@
-// The transmitter's calls.
+// The transmitter's calls, each on a fresh transmitter.
 use crate::printing::show;
+use crate::printing::show_count;
+use crate::printing::show_places;
+use libc::STDOUT_FILENO;
 use transmitter::Transmitter;
 
 pub(crate) fn characters() {
-    let opened = Transmitter::open(1);
-    let fresh = opened.transmitter;
     let most = [0x41u8; 100];
     let above = [0x41u8; 101];
     let mut enough = [0i16; 32000];
     let mut short = [0i16; 31999];
-    let a = fresh.characters(&most, &mut enough);
-    show(b"100 characters into 32000 places", a.answer);
-    let b = fresh.characters(&most, &mut short);
-    show(b"100 characters into 31999 places", b.answer);
-    let c = fresh.characters(&above, &mut enough);
-    show(b"101 characters into 32000 places", c.answer);
+    send(&most, &mut enough);
+    send(&most, &mut short);
+    send(&above, &mut enough);
 }
 
 pub(crate) fn idle() {
-    let opened = Transmitter::open(1);
-    let fresh = opened.transmitter;
     let mut enough = [0i16; 96];
     let mut short = [0i16; 95];
-    let a = fresh.idle(&mut enough);
-    show(b"idle into 96 places", a.answer);
-    let b = fresh.idle(&mut short);
-    show(b"idle into 95 places", b.answer);
+    send_idle(&mut enough);
+    send_idle(&mut short);
+}
+
+fn send(bytes: &[u8], out: &mut [i16]) {
+    show_count(bytes.len(), b" characters into ");
+    show_places(out.len());
+    let sent = fresh().characters(bytes, out);
+    show(sent.answer);
+}
+
+fn send_idle(out: &mut [i16]) {
+    io::write_all(STDOUT_FILENO, b"idle into ");
+    show_places(out.len());
+    let sent = fresh().idle(out);
+    show(sent.answer);
+}
+
+fn fresh() -> Transmitter {
+    let opened = Transmitter::open(1);
+    opened.transmitter
 }

@@ -8,10 +8,10 @@ use Rattle.examples.proofs.printing.show_list.Statement.{statement}
 use Rattle.examples.proofs.printing.show_list.Tie as tie
 
 abbrev Inv-loop : tie.InvT-loop
-Inv-loop call list i₀ t6 i = i ≤ length list
+Inv-loop list i₀ t5 i = i ≤ length list
 
 abbrev μ-loop : tie.MeasureT-loop
-μ-loop call list i₀ t6 i = length list - i
+μ-loop list i₀ t5 i = length list - i
 
 show-answer-requires : tie.Need-show-answer-requires Inv-loop μ-loop
 show-answer-requires c κs = tt
