@@ -28,16 +28,20 @@ pub(crate) fn places() {
 
 // Sheets of 65,536 and 65,537 bytes, and the most samples.
 pub(crate) fn lengths() {
-    let mut samples = [-1000i16; 10921];
+    write_long(b"65536 bytes", 7);
+    write_long(b"65537 bytes", 10);
     let mut out = [46u8; 65537];
-    samples[10920] = 7;
-    let fits = sheet::write(1, &samples, &mut out);
-    show_line(b"65536 bytes", fits);
-    samples[10920] = 10;
-    let over = sheet::write(1, &samples, &mut out);
-    show_line(b"65537 bytes", over);
     let most = sheet::write(2, &[7i16; 16384], &mut out);
     show_line(b"16384 samples 7", most);
+}
+
+// All samples but the last are -1000.
+fn write_long(name: &[u8], last: i16) {
+    let mut samples = [-1000i16; 10921];
+    samples[10920] = last;
+    let mut out = [46u8; 65537];
+    let answer = sheet::write(1, &samples, &mut out);
+    show_line(name, answer);
 }
 
 fn show_line(name: &[u8], answer: calls::Answer) {

@@ -6,8 +6,14 @@ use lib.Seq.{length-take-le}
 use Rattle.sheets.proofs.reading.read_front.Statement.{statement}
 use Rattle.sheets.proofs.reading.read_front.Tie as tie
 
+zeros-requires : tie.Need-zeros-requires
+zeros-requires c κs = tt
+
+array-share-prefix-text : tie.Need-array-share-prefix-text
+array-share-prefix-text c = search needs
+
 slice-aggregate-read : tie.Need-slice-aggregate-read
-slice-aggregate-read c = let a = c .before .before .before .before .args in sym (length-take-le (a .n) (a .text .now) (c .before .if1 .taken))
+slice-aggregate-read c = sym (length-take-le _ _ (array-share-prefix-text (c .before)))
 
 read-requires : tie.Need-read-requires
 read-requires c κs = tt
@@ -37,6 +43,8 @@ pub read-front-spec : {M : Type 1} → statement M
 read-front-spec =
     tie.close
     (tie.spec
+    zeros-requires
+    array-share-prefix-text
     slice-aggregate-read
     read-requires
     write-all-requires
