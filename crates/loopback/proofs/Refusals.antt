@@ -1,15 +1,16 @@
--- The cases of the refusal, each under the tests that lead to it, and what is known when there is none.
+-- What is known when nothing is refused, and the two outcomes.
 -- Assumes nothing.
-use mathlib.Core.Path.{_≡_, refl, _∙_}
-use mathlib.Core.Bool.{Bool, true, false, _&&_}
+use mathlib.Core.Path.{_≡_}
+use mathlib.Core.Bool.{true, not, _&&_}
 use mathlib.Core.List.{List, _++_}
 use mathlib.Mathlib.Data.Bool.Basic.{and-elim-left, and-elim-right}
 use Prim.Native.Nat.{ℕ, _≤_}
 use native.Mathlib.Omega.{arith}
-use borrow.Author.Tests.{leb-true, eq-eqb, ne-eqb}
+use borrow.Author.Tests.{leb-true, eq-eqb, ne-eqb, not-false}
 use lib.Dec.{leb}
 use lib.IntN.{ℤ}
 use lib.ListN.{length, drop}
+use Rattle.integers.proofs.Tests.{cond-split}
 use Rattle.calls.specs.Outcome.{refused, accepted}
 use Rattle.tones.specs.Bands.{isBand}
 use Rattle.message.specs.Message.{samplesFor}
@@ -21,32 +22,6 @@ size-few characters size s =
     (and-elim-left (leb characters 100) (leb 1 size) (and-elim-left (leb characters 100 && leb 1 size) (leb size 16384) s))
 
 module _ (band characters : ℕ) (disturbance : List ℤ) (size samples events : ℕ) where
-  abbrev number : ℕ
-  number = refusalOf band characters disturbance size samples events
-
-  pub no-band : isBand band ≡ false → 1 ≡ number
-  unfolding refusalOf
-  no-band b = rw b
-
-  module _ (b : isBand band ≡ true) where
-    pub no-size : isSize characters size ≡ false → 3 ≡ number
-    unfolding refusalOf
-    no-size s = rw (b, s)
-
-    module _ (s : isSize characters size ≡ true) where
-      pub no-disturbances : areDisturbances disturbance ≡ false → 5 ≡ number
-      unfolding refusalOf
-      no-disturbances d = rw (b, s, d)
-
-      module _ (d : areDisturbances disturbance ≡ true) where
-        pub no-room : isRoom characters (length disturbance) samples events ≡ false → 4 ≡ number
-        unfolding refusalOf
-        no-room r = rw (b, s, d, r)
-
-        pub none : isRoom characters (length disturbance) samples events ≡ true → 0 ≡ number
-        unfolding refusalOf
-        none r = rw (b, s, d, r)
-
   -- what holds when nothing is refused
   pub record Allowed : Type 0 where
     pub band-known : isBand band ≡ true
@@ -75,25 +50,18 @@ module _ (band characters : ℕ) (disturbance : List ℤ) (size samples events :
         room = leb-true characters events (and-elim-right (leb n (length disturbance) && leb n samples) (leb characters events) r);
       }
 
-  pub allowed : number ≡ 0 → Allowed
-  allowed e = test-band (isBand band) refl
-    where
-      test-room : isBand band ≡ true → isSize characters size ≡ true → areDisturbances disturbance ≡ true
-          → (r : Bool) → isRoom characters (length disturbance) samples events ≡ r → Allowed
-      test-room b s d true r = allowed-by b s d r
-      test-room b s d false r = absurd (omega (arith, no-room b s d r ∙ e))
-
-      test-small : isBand band ≡ true → isSize characters size ≡ true → (d : Bool) → areDisturbances disturbance ≡ d → Allowed
-      test-small b s true d = test-room b s d (isRoom characters (length disturbance) samples events) refl
-      test-small b s false d = absurd (omega (arith, no-disturbances b s d ∙ e))
-
-      test-size : isBand band ≡ true → (s : Bool) → isSize characters size ≡ s → Allowed
-      test-size b true s = test-small b s (areDisturbances disturbance) refl
-      test-size b false s = absurd (omega (arith, no-size b s ∙ e))
-
-      test-band : (b : Bool) → isBand band ≡ b → Allowed
-      test-band true b = test-size b (isSize characters size) refl
-      test-band false b = absurd (omega (arith, no-band b ∙ e))
+  pub allowed : refusalOf band characters disturbance size samples events ≡ 0 → Allowed
+  unfolding refusalOf
+  allowed =
+      let P : ℕ → Type 0 = λ k. k ≡ 0 → Allowed in
+      cond-split P (not (isBand band)) 1 _ (λ t e. absurd (omega arith))
+      (λ b.
+      cond-split P (not (isSize characters size)) 3 _ (λ t e. absurd (omega arith))
+      (λ s.
+      cond-split P (not (areDisturbances disturbance)) 5 _ (λ t e. absurd (omega arith))
+      (λ d.
+      cond-split P (not (isRoom characters (length disturbance) samples events)) 4 0 (λ t e. absurd (omega arith))
+      (λ r e. allowed-by (not-false _ b) (not-false _ s) (not-false _ d) (not-false _ r)))))
 
 -- ---- the two outcomes
 

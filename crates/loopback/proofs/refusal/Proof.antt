@@ -4,8 +4,8 @@ use mathlib.Core.Path.{_≡_, sym, _∙_}
 use mathlib.Core.Bool.{true}
 use borrow.Author.Tests.{not-true, not-false}
 use Rattle.tones.specs.Bands.{isBand}
-use Rattle.loopback.specs.Loopback.{isSize, areDisturbances}
-use Rattle.loopback.proofs.Refusals.{no-band, no-size, no-disturbances, no-room, none, size-few}
+use Rattle.loopback.specs.Loopback.{isSize, areDisturbances, refusalOf}
+use Rattle.loopback.proofs.Refusals.{size-few}
 use Rattle.loopback.proofs.refusal.Statement.{statement}
 use Rattle.loopback.proofs.refusal.Tie as tie
 
@@ -23,22 +23,27 @@ is-band-requires : tie.Need-is-band-requires
 is-band-requires c κs = tt
 
 returns : tie.Need-returns
-returns c = no-band _ _ _ _ _ _ (sym (c .before .is-band .ensures) ∙ not-true (c .before .is-band .result) (c .if1 .taken))
+unfolding refusalOf
+returns c = rw (sym (c .before .is-band .ensures) ∙ not-true (c .before .is-band .result) (c .if1 .taken))
 
 is-size-requires : tie.Need-is-size-requires
 is-size-requires c κs = tt
 
 returns-2 : tie.Need-returns-2
-returns-2 c =
-    no-size _ _ _ _ _ _ (known (c .before .before)) (sym (c .before .is-size .ensures) ∙ not-true (c .before .is-size .result) (c .if2 .taken))
+unfolding refusalOf
+returns-2 c = rw (known (c .before .before), sym (c .before .is-size .ensures) ∙ not-true (c .before .is-size .result) (c .if2 .taken))
 
 are-between-requires : tie.Need-are-between-requires
 are-between-requires c κs = tt
 
 returns-3 : tie.Need-returns-3
+unfolding refusalOf
 returns-3 c =
-    no-disturbances _ _ _ _ _ _ (known (c .before .before .before .before)) (sized (c .before .before))
-    (sym (c .before .are-between .ensures) ∙ not-true (c .before .are-between .result) (c .if3 .taken))
+    rw (
+      known (c .before .before .before .before),
+      sized (c .before .before),
+      sym (c .before .are-between .ensures) ∙ not-true (c .before .are-between .result) (c .if3 .taken),
+    )
 
 is-room-requires : tie.Need-is-room-requires
 is-room-requires c κs =
@@ -46,14 +51,24 @@ is-room-requires c κs =
     size-few (a .characters) (a .size) (sized (c .before .before))
 
 returns-4 : tie.Need-returns-4
+unfolding refusalOf
 returns-4 c =
-    no-room _ _ _ _ _ _ (known (c .before .before .before .before .before .before)) (sized (c .before .before .before .before)) (small (c .before .before))
-    (sym (c .before .is-room .ensures) ∙ not-true (c .before .is-room .result) (c .if4 .taken))
+    rw (
+      known (c .before .before .before .before .before .before),
+      sized (c .before .before .before .before),
+      small (c .before .before),
+      sym (c .before .is-room .ensures) ∙ not-true (c .before .is-room .result) (c .if4 .taken),
+    )
 
 returns-5 : tie.Need-returns-5
+unfolding refusalOf
 returns-5 c =
-    none _ _ _ _ _ _ (known (c .before .before .before .before .before .before)) (sized (c .before .before .before .before)) (small (c .before .before))
-    (sym (c .before .is-room .ensures) ∙ not-false (c .before .is-room .result) (c .if4 .left))
+    rw (
+      known (c .before .before .before .before .before .before),
+      sized (c .before .before .before .before),
+      small (c .before .before),
+      sym (c .before .is-room .ensures) ∙ not-false (c .before .is-room .result) (c .if4 .left),
+    )
 
 pub refusal-spec : {M : Type 1} → statement M
 refusal-spec =
