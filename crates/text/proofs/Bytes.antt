@@ -3,7 +3,7 @@
 use mathlib.Core.Path.{_≡_, refl, ap, _∙_}
 use mathlib.Core.Bool.{true, false, _&&_, and-false, false≢true}
 use mathlib.Core.List.{List, [], _∷_, _++_}
-use mathlib.Mathlib.Data.Bool.Basic.{and-elim-left, and-elim-right}
+use mathlib.Mathlib.Data.Bool.Basic.{and-elim-left, and-elim-right, and-intro}
 use Prim.Native.Nat.{ℕ, suc, _+_, _<_, _≤_}
 use native.Mathlib.Nat.{not-suc-le-zero, le-of-suc-le-suc}
 use native.Mathlib.Numerals.{add-one}
@@ -22,6 +22,11 @@ starts-cut (x ∷ xs) [] h = absurd (false≢true h)
 starts-cut (x ∷ xs) (y ∷ t) h =
     rw (eqb-true x y (and-elim-left (eqb x y) (startsWith xs t) h))
     (ap (λ (r : List ℕ). y ∷ r) (starts-cut xs t (and-elim-right (eqb x y) (startsWith xs t) h)))
+
+pub starts-append : (xs t : List ℕ) → startsWith xs (xs ++ t) ≡ true
+unfolding startsWith
+starts-append [] t = refl
+starts-append (x ∷ xs) t = and-intro (eq-eqb x x refl) (starts-append xs t)
 
 -- and is no shorter
 pub starts-long : (xs t : List ℕ) → startsWith xs t ≡ true → length xs ≤ length t
