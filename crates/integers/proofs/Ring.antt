@@ -12,28 +12,22 @@ pub +ℤ-swap : (a b c d : ℤ) → (a +ℤ b) +ℤ (c +ℤ d) ≡ (a +ℤ c) +�
     ∙ ap (λ (x : ℤ). a +ℤ x) (sym (+ℤ-assoc b c d) ∙ ap (λ (x : ℤ). x +ℤ d) (+ℤ-comm b c) ∙ +ℤ-assoc c b d)
     ∙ sym (+ℤ-assoc a c (b +ℤ d))
 
--- one more in the first summand, and one less
-module _ (m k c : ℤ) (e : (m +ℤ k) *ℤ c ≡ m *ℤ c +ℤ k *ℤ c) where
-  up : (sucℤ m +ℤ k) *ℤ c ≡ sucℤ m *ℤ c +ℤ k *ℤ c
-  up =
-      ap (λ (x : ℤ). x *ℤ c) (sucℤ-+ℤ m k) ∙ sucℤ-*ℤ (m +ℤ k) c ∙ ap (λ (x : ℤ). x +ℤ c) e
-      ∙ +ℤ-assoc (m *ℤ c) (k *ℤ c) c ∙ ap (λ (x : ℤ). m *ℤ c +ℤ x) (+ℤ-comm (k *ℤ c) c)
-      ∙ sym (+ℤ-assoc (m *ℤ c) c (k *ℤ c)) ∙ ap (λ (x : ℤ). x +ℤ k *ℤ c) (sym (sucℤ-*ℤ m c))
-
-  down : (predℤ m +ℤ k) *ℤ c ≡ predℤ m *ℤ c +ℤ k *ℤ c
-  down =
-      ap (λ (x : ℤ). x *ℤ c) (predℤ-+ℤ m k) ∙ predℤ-*ℤ (m +ℤ k) c ∙ ap (λ (x : ℤ). x +ℤ negℤ c) e
-      ∙ +ℤ-assoc (m *ℤ c) (k *ℤ c) (negℤ c) ∙ ap (λ (x : ℤ). m *ℤ c +ℤ x) (+ℤ-comm (k *ℤ c) (negℤ c))
-      ∙ sym (+ℤ-assoc (m *ℤ c) (negℤ c) (k *ℤ c)) ∙ ap (λ (x : ℤ). x +ℤ k *ℤ c) (sym (predℤ-*ℤ m c))
+-- one more in the first summand, or one less: f moves a number by one, and its product with c by u
+module _ (f : ℤ → ℤ) (c u : ℤ) (sum : (a b : ℤ) → f a +ℤ b ≡ f (a +ℤ b)) (product : (a : ℤ) → f a *ℤ c ≡ a *ℤ c +ℤ u) where
+  moved : (m k : ℤ) → (m +ℤ k) *ℤ c ≡ m *ℤ c +ℤ k *ℤ c → (f m +ℤ k) *ℤ c ≡ f m *ℤ c +ℤ k *ℤ c
+  moved m k e =
+      ap (λ (x : ℤ). x *ℤ c) (sum m k) ∙ product (m +ℤ k) ∙ ap (λ (x : ℤ). x +ℤ u) e
+      ∙ +ℤ-assoc (m *ℤ c) (k *ℤ c) u ∙ ap (λ (x : ℤ). m *ℤ c +ℤ x) (+ℤ-comm (k *ℤ c) u)
+      ∙ sym (+ℤ-assoc (m *ℤ c) u (k *ℤ c)) ∙ ap (λ (x : ℤ). x +ℤ k *ℤ c) (sym (product m))
 
 at-zero : (k c : ℤ) → (pos zero +ℤ k) *ℤ c ≡ pos zero *ℤ c +ℤ k *ℤ c
 at-zero k c = rw (+ℤ-idl k, zero-*ℤ c, +ℤ-idl (k *ℤ c))
 
 pub +ℤ-*ℤ : (m k c : ℤ) → (m +ℤ k) *ℤ c ≡ m *ℤ c +ℤ k *ℤ c
 +ℤ-*ℤ (pos zero) k c = at-zero k c
-+ℤ-*ℤ (pos (suc n)) k c = up (pos n) k c (+ℤ-*ℤ (pos n) k c)
-+ℤ-*ℤ (negsuc zero) k c = down (pos zero) k c (at-zero k c)
-+ℤ-*ℤ (negsuc (suc n)) k c = down (negsuc n) k c (+ℤ-*ℤ (negsuc n) k c)
++ℤ-*ℤ (pos (suc n)) k c = moved sucℤ c c sucℤ-+ℤ (λ a. sucℤ-*ℤ a c) (pos n) k (+ℤ-*ℤ (pos n) k c)
++ℤ-*ℤ (negsuc zero) k c = moved predℤ c (negℤ c) predℤ-+ℤ (λ a. predℤ-*ℤ a c) (pos zero) k (at-zero k c)
++ℤ-*ℤ (negsuc (suc n)) k c = moved predℤ c (negℤ c) predℤ-+ℤ (λ a. predℤ-*ℤ a c) (negsuc n) k (+ℤ-*ℤ (negsuc n) k c)
 
 pub negℤ-*ℤ : (x c : ℤ) → negℤ x *ℤ c ≡ negℤ (x *ℤ c)
 negℤ-*ℤ (pos zero) c = rw zero-*ℤ

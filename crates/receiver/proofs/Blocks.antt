@@ -1,4 +1,5 @@
--- An accepted block: scanning the head, and then the block itself, reads the block as the step rule does.
+-- An accepted block: scanning the head, and then the block itself, reads the block as the step rule does. From the step rule by
+-- windows, their seam, and the bound on events.
 -- Assumes nothing.
 use mathlib.Core.Path.{_≡_, sym, ap, ap₂, _∙_}
 use mathlib.Core.Bool.{true}

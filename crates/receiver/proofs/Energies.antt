@@ -1,4 +1,4 @@
--- Laws of the energies: by lists of weights, and as natural numbers.
+-- Laws of the energies: by lists of weights, and as natural numbers. From the laws of sums and of waves.
 -- Assumes nothing.
 use mathlib.Core.Path.{_≡_, refl, sym, ap, ap₂, _∙_}
 use mathlib.Core.List.{List}

@@ -1,4 +1,5 @@
--- A source that is scanned window by window: what holds before each window, and at the end.
+-- A source that is scanned window by window: what holds before each window, and at the end. From the decisions of a list and the
+-- laws of a buffer being filled.
 -- Assumes nothing.
 use mathlib.Core.Path.{_≡_, refl, sym, ap, _∙_}
 use mathlib.Core.Bool.{true}

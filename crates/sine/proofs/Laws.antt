@@ -1,5 +1,5 @@
 -- The laws of S: the period, the opposite half, the mirror and the bound, which its users cite so that none of them opens its
--- definition.
+-- definition. The bound is from the tests of the first quarter.
 -- Assumes nothing.
 use mathlib.Core.Path.{_≡_, refl, _∙_, sym, ap}
 use Prim.Native.Nat.{ℕ, _+_, _-_, _%_, _<_, _≤_, min}
