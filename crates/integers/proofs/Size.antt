@@ -1,5 +1,5 @@
--- The size of a whole number, natAbs: of a negative, a sum, a product and a number near another, and that a small number fits a
--- signed width.
+-- The size of a whole number, natAbs: of a negative, a sum, a product, a square and a number near another, and that a small number
+-- fits a signed width.
 -- Assumes nothing.
 use mathlib.Core.Path.{_≡_, refl, ap, _∙_}
 use mathlib.Core.Bool.{true, false, true≢false}
@@ -53,6 +53,10 @@ natAbs-*ℤ (pos a) (pos b) = refl
 natAbs-*ℤ (pos a) (negsuc b) = natAbs-negℤ (pos (a * suc b))
 natAbs-*ℤ (negsuc a) (pos b) = natAbs-negℤ (pos (suc a * b))
 natAbs-*ℤ (negsuc a) (negsuc b) = refl
+
+pub square : (z : ℤ) → z *ℤ z ≡ pos (natAbs z * natAbs z)
+square (pos n) = refl
+square (negsuc n) = refl
 
 -- `mag` is what a signed width bounds: n of n, and n of -n - 1
 mag-natAbs : (z : ℤ) → mag z ≤ natAbs z

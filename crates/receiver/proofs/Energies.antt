@@ -1,16 +1,17 @@
 -- Laws of the energies: by lists of weights, and as natural numbers. From the laws of sums and of waves.
 -- Assumes nothing.
-use mathlib.Core.Path.{_≡_, refl, sym, ap, ap₂, _∙_}
+use mathlib.Core.Path.{_≡_, sym, ap, ap₂, _∙_}
 use mathlib.Core.List.{List}
 use Prim.Native.Nat.{ℕ, _+_, _*_, max}
 use native.Mathlib.Nat.{zero-add, add-comm}
 use native.Mathlib.Omega.{arith}
 use borrow.Author.Tests.{lt-ltb, le-ltb}
 use lib.Dec.{ltb, leb}
-use lib.IntN.{ℤ, pos, negsuc, natAbs, _+ℤ_, _*ℤ_}
+use lib.IntN.{ℤ, pos, _+ℤ_, _*ℤ_}
 use lib.ListN.{getD}
 use Rattle.integers.specs.Sums.{dot, sumTo}
 use Rattle.integers.proofs.Tests.{lt-or-le}
+use Rattle.integers.proofs.Size.{square}
 use Rattle.integers.proofs.Sums.{sumTo-same, sumTo-dot, products}
 use Rattle.sine.specs.Sine.{S, C}
 use Rattle.sine.specs.Wave.{wave}
@@ -44,10 +45,6 @@ unfolding decisionOf
 decision-by t i window = decided (energy-by window (t .space) i) (energy-by window (t .mark) i)
 
 -- ---- as natural numbers
-
-square : (z : ℤ) → z *ℤ z ≡ pos (natAbs z * natAbs z)
-square (pos n) = refl
-square (negsuc n) = refl
 
 energy-ℕ : (window : List ℤ) (t : ℕ) → energy window t ≡ pos (energyℕ window t)
 unfolding energy energyℕ
