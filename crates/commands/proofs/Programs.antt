@@ -10,6 +10,8 @@ use lib.Dec.{eqb}
 use lib.ListN.{length, getD, take, drop, length-append, length-drop, drop-of-length-le}
 use lib.Seq.{take-all, take-at, drop-cons}
 use Rattle.integers.proofs.Tests.{cond-split}
+use Rattle.calls.specs.Outcome.{Outcome, refused}
+use Rattle.calls.proofs.Answers.{Answered, answered}
 use Rattle.text.specs.Numbers.{isDigit}
 use Rattle.receiver.specs.Step.{eventsAfter}
 use Rattle.receiver.specs.Calls.{fresh}
@@ -17,10 +19,10 @@ use Rattle.message.specs.Message.{messageOf, messageNumber}
 use Rattle.message.proofs.Calls.{sendable}
 use Rattle.sheet.specs.Text.{sheetOf}
 use Rattle.sheet.specs.Parse.{bandIn, samplesOf}
-use Rattle.sheet.specs.Calls.{readNumber, writeNumber}
+use Rattle.sheet.specs.Calls.{readNumber, writeNumber, writeOf}
 use Rattle.sheet.proofs.Calls.{Writable, writable}
 use Rattle.commands.specs.Lines.{refusalLines, eventsText}
-use Rattle.commands.specs.Programs.{sendNumber, sendingOf, modulated, demodulated, over, Front}
+use Rattle.commands.specs.Programs.{sendNumber, sheetCall, sendingOf, modulated, demodulated, over, Front}
 
 -- ---- the number of a message and its sheet
 
@@ -28,13 +30,28 @@ module _ (band : ℕ) (bytes : List ℕ) where
   abbrev number : ℕ
   number = messageNumber band (length bytes) 32192
 
-  pub number-refused : (number ≡ 0 → ⊥) → number ≡ sendNumber band bytes
+  number-refused : (number ≡ 0 → ⊥) → number ≡ sendNumber band bytes
   unfolding sendNumber
   number-refused h = rw (ne-eqb number 0 h)
 
-  pub number-sheet : number ≡ 0 → writeNumber band (messageOf band bytes) 65536 ≡ sendNumber band bytes
+  number-sheet : number ≡ 0 → writeNumber band (messageOf band bytes) 65536 ≡ sendNumber band bytes
   unfolding sendNumber
   number-sheet e = rw e
+
+  -- the call by which they are made, and what its answer tells
+  module _ (lent : List ℕ) where
+    pub sheet-refused : (n : ℕ) → n ≡ number → (n ≡ 0 → ⊥) → refused n tt lent ≡ sheetCall band bytes lent
+    unfolding sheetCall
+    sheet-refused n e h = rw (← number-refused (λ z. h (e ∙ z)), ← e, ne-eqb n 0 h)
+
+    pub sheet-written : number ≡ 0 → length lent ≡ 65536 → writeOf band (messageOf band bytes) lent ≡ sheetCall band bytes lent
+    unfolding sheetCall writeOf
+    sheet-written e l = rw (l, number-sheet e)
+
+    pub sheet-answer : (o : Outcome Unit ℕ) → o ≡ sheetCall band bytes lent
+        → Answered tt (sheetOf band (messageOf band bytes)) lent (sendNumber band bytes) o
+    unfolding sheetCall
+    sheet-answer o e = answered tt (sheetOf band (messageOf band bytes)) lent (sendNumber band bytes) tt o e
 
   -- what holds when there is none
   pub record Printable : Type 0 where

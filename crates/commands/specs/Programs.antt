@@ -6,6 +6,7 @@ use mathlib.Core.List.{List, [], _∷_, _++_}
 use Prim.Native.Nat.{ℕ, _-_, _≤_}
 use lib.Dec.{eqb}
 use lib.ListN.{length, take, drop}
+use Rattle.calls.specs.Outcome.{Outcome, refused, accepted}
 use Rattle.text.specs.Numbers.{isDigit}
 use Rattle.message.specs.Message.{messageOf, messageNumber}
 use Rattle.receiver.specs.Step.{eventsAfter}
@@ -42,6 +43,13 @@ unfoldable pub demodulated : List ℕ → List ℕ
 demodulated text =
     let n : ℕ = readNumber text 16384 in
     cond (eqb n 0) (eventsText (eventsAfter (fresh (bandIn text)) (samplesOf text))) (refusalLines n)
+
+-- ---- the message and its sheet as one call; there is no state
+
+unfoldable pub sheetCall : ℕ → List ℕ → List ℕ → Outcome Unit ℕ
+sheetCall band bytes lent =
+    let n : ℕ = sendNumber band bytes in
+    cond (eqb n 0) (accepted tt (sheetOf band (messageOf band bytes)) lent) (refused n tt lent)
 
 -- ---- what a caller's buffer holds
 
