@@ -44,7 +44,8 @@ use Rattle.receiver.proofs.Receiver.block as core
 use Rattle.receiver.proofs.Receiver.block.Symbol as core-code
 use Rattle.receiver.proofs.Receiver.block.Met as core-proof
 use Rattle.lent.proofs.Walk.{Said, state, answer, reading, rowOf, val, Fits, typed, knows, had, spelt, gives}
-use Rattle.lent.proofs.Walk.{slice-val, Shared, Tokens, twice, last-list, local, puts, calls, meets}
+use Rattle.lent.proofs.Walk.{slice-val, Shared, Tokens, twice, last-list, local, puts}
+use Rattle.lent.proofs.Meeting.{calls, meets}
 use Rattle.lent.proofs.block as self
 use Rattle.lent.proofs.block.Key as key
 use Rattle.lent.proofs.block.Statement as stated

@@ -47,7 +47,8 @@ use Rattle.receiver.specs.declared.Receiver.{Receiver}
 use Rattle.receiver.specs.declared.Reading.{Reading}
 use Rattle.receiver.proofs.Receiver.Laws.{mir as layout}
 use Rattle.lent.proofs.Walk.{Said, state, answer, reading, rowOf, val, Own, Fits, typed, knows, had, spelt, gives}
-use Rattle.lent.proofs.Walk.{slice-val, Shared, Tokens, twice, last-list, local, puts, calls, meets}
+use Rattle.lent.proofs.Walk.{slice-val, Shared, Tokens, twice, last-list, local, puts}
+use Rattle.lent.proofs.Meeting.{calls, meets}
 use Rattle.lent.proofs.block
 use Rattle.lent.proofs.block.Symbol as block-code
 use Rattle.lent.proofs.block.Met as block-proof
