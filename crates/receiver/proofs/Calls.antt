@@ -3,7 +3,7 @@
 use mathlib.Core.Path.{_≡_, sym, ap, _∙_}
 use mathlib.Core.Bool.{true, false, not}
 use mathlib.Core.List.{List}
-use Prim.Native.Nat.{ℕ, _<_, _≤_}
+use Prim.Native.Nat.{ℕ, suc, _<_, _≤_}
 use borrow.Author.Tests.{lt-ltb, le-ltb, not-false}
 use lib.Dec.{ltb}
 use lib.IntN.{ℤ}
@@ -40,16 +40,16 @@ module _ (s : Receiver) (xs : List ℤ) (lent : List ℕ) where
         unfolding blockOf
         block-0 p = simp (r, le-ltb 16384 (length xs) l, a, le-ltb (length lent) (placesFor (length xs)) p)
 
-  -- what holds of each case holds of a call
-  pub block-case : (P : Outcome Receiver ℕ → Type 0) → P (refused 2 s lent) → P (refused 3 s lent) → P (refused 5 s lent) → P (refused 4 s lent)
+  -- what holds of every refusal and of an accepted call holds of a call
+  pub block-case : (P : Outcome Receiver ℕ → Type 0) → ((n : ℕ) → P (refused (suc n) s lent))
       → (inRange s ≡ true → areSamples xs ≡ true → P (accepted (stateAfter s xs) (eventsAfter s xs) lent)) → P (blockOf s xs lent)
   unfolding blockOf
-  block-case P p2 p3 p5 p4 p0 =
-      cond-split P (not (inRange s)) _ _ (λ r. p2)
-      (λ r. cond-split P (ltb 16384 (length xs)) _ _ (λ l. p3)
-      (λ l. cond-split P (not (areSamples xs)) _ _ (λ a. p5)
-      (λ a. cond-split P (ltb (length lent) (placesFor (length xs))) _ _ (λ p. p4)
-      (λ p. p0 (not-false (inRange s) r) (not-false (areSamples xs) a)))))
+  block-case P refuses reads =
+      cond-split P (not (inRange s)) _ _ (λ r. refuses 1)
+      (λ r. cond-split P (ltb 16384 (length xs)) _ _ (λ l. refuses 2)
+      (λ l. cond-split P (not (areSamples xs)) _ _ (λ a. refuses 4)
+      (λ a. cond-split P (ltb (length lent) (placesFor (length xs))) _ _ (λ p. refuses 3)
+      (λ p. reads (not-false (inRange s) r) (not-false (areSamples xs) a)))))
 
 -- a refusal is the outcome o
 pub refusal : (r : Reading) (n : ℕ) (s : Receiver) (lent : List ℕ) {o : Outcome Receiver ℕ} → o ≡ refused n s lent

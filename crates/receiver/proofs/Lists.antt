@@ -32,13 +32,13 @@ refuses s c n = refused-run stateAfter eventsAfter reading-laws n s (c .samples)
 
 call-runs : (s : Receiver) (c : Call) → IsRun stateAfter eventsAfter reading-laws (c .samples) s (callOf s c)
 call-runs s c =
-    block-case s (c .samples) (c .lent) (IsRun stateAfter eventsAfter reading-laws (c .samples) s) (refuses s c 1) (refuses s c 2) (refuses s c 4) (refuses s c 3)
+    block-case s (c .samples) (c .lent) (IsRun stateAfter eventsAfter reading-laws (c .samples) s) (refuses s c)
     (λ r a. accepted-run stateAfter eventsAfter reading-laws s (c .samples) (c .lent))
 
 -- a call keeps a state in its ranges
 call-kept : (s : Receiver) (c : Call) → inRange s ≡ true → inRange (callOf s c .state) ≡ true
 call-kept s c h =
-    block-case s (c .samples) (c .lent) (λ (o : Outcome Receiver ℕ). inRange (o .state) ≡ true) h h h h (λ r a. state-kept s (c .samples) r a)
+    block-case s (c .samples) (c .lent) (λ (o : Outcome Receiver ℕ). inRange (o .state) ≡ true) (λ n. h) (λ r a. state-kept s (c .samples) r a)
 
 calls-kept : (s : Receiver) (calls : List Call) → inRange s ≡ true → inRange (lists.stateAfter callOf s calls) ≡ true
 unfolding after
@@ -70,7 +70,7 @@ module _ (s : Receiver) (c : Call) (a : isAccepted (callOf s c) ≡ true) where
   call-sound : (inRange s ≡ true) × (areSamples (c .samples) ≡ true)
   call-sound =
       block-case s (c .samples) (c .lent) (λ (o : Outcome Receiver ℕ). isAccepted o ≡ true → (inRange s ≡ true) × (areSamples (c .samples) ≡ true))
-      (no 1) (no 2) (no 4) (no 3) (λ r x e. (r, x)) a
+      no (λ r x e. (r, x)) a
     where
       no : (n : ℕ) → eqb (suc n) 0 ≡ true → (inRange s ≡ true) × (areSamples (c .samples) ≡ true)
       no n e = absurd (false≢true (sym (eqb·suc-zero n) ∙ e))

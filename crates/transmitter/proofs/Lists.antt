@@ -46,10 +46,10 @@ module _ (c : Call) (s : Transmitter) (lent : List ℤ) where
 call-runs : (s : Transmitter) (c : Call) → CallRuns c s (callOf s c)
 call-runs s (idle lent) =
     let c = idle lent in
-    idle-case (CallRuns c s) s lent (refuses c s lent 1) (refuses c s lent 3) (sends c s lent)
+    idle-case (CallRuns c s) s lent (refuses c s lent) (sends c s lent)
 call-runs s (characters bytes lent) =
     let c = characters bytes lent in
-    characters-case (CallRuns c s) s lent bytes (refuses c s lent 1) (refuses c s lent 2) (refuses c s lent 3) (sends c s lent)
+    characters-case (CallRuns c s) s lent (refuses c s lent) bytes (sends c s lent)
 
 -- steps keep a state in its ranges
 pub steps-kept : (s : Transmitter) (steps : List ℕ) → inRange s ≡ true

@@ -4,7 +4,7 @@ use mathlib.Core.Path.{_≡_, refl, _∙_, sym, ap, subst}
 use mathlib.Core.Bool.{true, false, not}
 use mathlib.Core.List.{List, _++_, append-nil}
 use mathlib.Mathlib.Data.Bool.Basic.{and-intro}
-use Prim.Native.Nat.{ℕ, _*_, _<_, _≤_}
+use Prim.Native.Nat.{ℕ, suc, _*_, _<_, _≤_}
 use native.Mathlib.Omega.{arith}
 use borrow.Author.Tests.{lt-ltb, le-ltb}
 use lib.Dec.{ltb}
@@ -63,18 +63,17 @@ module _ (s : Transmitter) (bytes : List ℕ) (lent : List ℤ) where
   unfolding charactersOf
   characters-0 h l m = simp (h, le-ltb 100 (length bytes) l, le-ltb (length lent) (320 * length bytes) m)
 
--- what holds of each case holds of a call
-module _ (P : Outcome Transmitter ℤ → Type 0) (s : Transmitter) (lent : List ℤ) where
-  pub idle-case : P (refused 2 s lent) → P (refused 4 s lent) → P (sent s idleBits lent) → P (idleOf s lent)
+-- what holds of every refusal and of an accepted call holds of a call
+module _ (P : Outcome Transmitter ℤ → Type 0) (s : Transmitter) (lent : List ℤ) (refuses : (n : ℕ) → P (refused (suc n) s lent)) where
+  pub idle-case : P (sent s idleBits lent) → P (idleOf s lent)
   unfolding idleOf
-  idle-case p2 p4 p0 = cond-case P (not (inRange s)) _ _ p2 (cond-case P (ltb (length lent) 96) _ _ p4 p0)
+  idle-case sends = cond-case P (not (inRange s)) _ _ (refuses 1) (cond-case P (ltb (length lent) 96) _ _ (refuses 3) sends)
 
-  pub characters-case : (bytes : List ℕ) → P (refused 2 s lent) → P (refused 3 s lent) → P (refused 4 s lent) → P (sent s (charactersBits bytes) lent)
-      → P (charactersOf s bytes lent)
+  pub characters-case : (bytes : List ℕ) → P (sent s (charactersBits bytes) lent) → P (charactersOf s bytes lent)
   unfolding charactersOf
-  characters-case bytes p2 p3 p4 p0 =
-      cond-case P (not (inRange s)) _ _ p2
-      (cond-case P (ltb 100 (length bytes)) _ _ p3 (cond-case P (ltb (length lent) (320 * length bytes)) _ _ p4 p0))
+  characters-case bytes sends =
+      cond-case P (not (inRange s)) _ _ (refuses 1)
+      (cond-case P (ltb 100 (length bytes)) _ _ (refuses 2) (cond-case P (ltb (length lent) (320 * length bytes)) _ _ (refuses 3) sends))
 
 -- ---- what the code gives
 
