@@ -1,6 +1,7 @@
--- What a block call on numbers answers and stores, from what an entry of the receiver gives. The two entries have one contract.
+-- The numbers of a state stand for that state. And what a block call on numbers answers and stores, from what an entry of the receiver
+-- gives: the two entries have one contract.
 -- Assumes nothing.
-use mathlib.Core.Path.{_≡_, ap, ap₂, _∙_}
+use mathlib.Core.Path.{_≡_, refl, ap, ap₂, _∙_}
 use mathlib.Core.List.{List}
 use Prim.Native.Nat.{ℕ}
 use lib.IntN.{ℤ}
@@ -9,7 +10,17 @@ use Rattle.calls.specs.Outcome.{Outcome, outcome}
 use Rattle.receiver.specs.declared.Receiver.{Receiver}
 use Rattle.receiver.specs.declared.Reading.{Reading}
 use Rattle.receiver.specs.Calls.{blockOf}
-use Rattle.exports.specs.Receiving.{StateNumbers, receiverOf, nextNumbers, blockNumbers}
+use Rattle.receiver.specs.declared.Stage.{Stage}
+use Rattle.receiver.specs.declared.Stage.the-variants.{Searching, Waiting}
+use Rattle.exports.specs.Receiving.{StateNumbers, stageNumbers, stageOf, numbersOf, receiverOf, nextNumbers, blockNumbers}
+
+-- what one call stores, the next one takes for the same state
+stage-stored : (s : Stage) → stageOf (stageNumbers s) ≡ s
+stage-stored Searching = refl
+stage-stored (Waiting wait slot byte) = refl
+
+pub state-stored : (s : Receiver) → receiverOf (numbersOf s) ≡ s
+state-stored s i = record { band = s .band; window = s .window; run = s .run; stage = stage-stored (s .stage) i }
 
 -- An entry is called with the state of the numbers n and gives r; what is kept of r is the call on n.
 module _ (n : StateNumbers) (xs : List ℤ) (lent : List ℕ) {s : Receiver} {r : Reading} {now : List ℕ} {a : Answer} {m : StateNumbers} where

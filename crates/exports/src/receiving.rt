@@ -119,14 +119,14 @@ fn store_state(
 fn stage_of(numbers: [u8; 4]) -> Stage
     ensures { λ r. ⌜ r ≡ stageOf numbers ⌝ }
 {
-    if numbers[0] == 0 {
+    let first = numbers[0];
+    let wait = numbers[1];
+    let slot = numbers[2];
+    let byte = numbers[3];
+    if first == 0 {
         Stage::Searching
     } else {
-        Stage::Waiting {
-            wait: numbers[1],
-            slot: numbers[2],
-            byte: numbers[3],
-        }
+        Stage::Waiting { wait, slot, byte }
     }
 }
 

@@ -5,17 +5,17 @@ use borrow.Author.Tests.{eq-eqb, ne-eqb}
 use Rattle.exports.proofs.receiving.stage_of.Statement.{statement}
 use Rattle.exports.proofs.receiving.stage_of.Tie as tie
 
-array-read-if1 : tie.Need-array-read-if1
-array-read-if1 c = search needs
+array-read-first : tie.Need-array-read-first
+array-read-first c = search needs
 
-array-read-t10 : tie.Need-array-read-t10
-array-read-t10 c = search needs
+array-read-wait : tie.Need-array-read-wait
+array-read-wait c = search needs
 
-array-read-t13 : tie.Need-array-read-t13
-array-read-t13 c = search needs
+array-read-slot : tie.Need-array-read-slot
+array-read-slot c = search needs
 
-array-read-t16 : tie.Need-array-read-t16
-array-read-t16 c = search needs
+array-read-byte : tie.Need-array-read-byte
+array-read-byte c = search needs
 
 returns : tie.Need-returns
 returns c = rw (eq-eqb _ 0 (c .if1 .taken))
@@ -24,4 +24,4 @@ returns-2 : tie.Need-returns-2
 returns-2 c = rw (ne-eqb _ 0 (c .if1 .left))
 
 pub stage-of-spec : {M : Type 1} → statement M
-stage-of-spec = tie.close (tie.spec array-read-if1 array-read-t10 array-read-t13 array-read-t16 returns returns-2)
+stage-of-spec = tie.close (tie.spec array-read-first array-read-wait array-read-slot array-read-byte returns returns-2)
