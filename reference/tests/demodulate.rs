@@ -7,7 +7,7 @@ use common::receiver::{CARRIER_LOST, NO_STOP_BIT};
 use common::recording::{around_0, as_events, disturbed, every_character, sending, surrounded};
 use common::sheets::sheet;
 use common::states::{any_samples, steps};
-use common::{sines, BANDS, IDLE_SAMPLES};
+use common::{other_band, sines, BANDS, IDLE_SAMPLES};
 use reference::programs::demodulate;
 use reference::random::Random;
 
@@ -182,12 +182,12 @@ fn disturbed_sheets() {
 
 /// The band's digit decides with which tones a sheet is read.
 #[test]
-fn sheets_with_the_other_band() {
+fn sheets_with_another_band() {
     let mut random = Random::new(86);
     for band in BANDS {
         for _ in 0..20 {
             let message = random.bytes(10);
-            let found = check(3 - band, &sending(band, &message));
+            let found = check(other_band(band), &sending(band, &message));
             assert_ne!(found, listed(&as_events(&message)), "band {band}");
         }
     }

@@ -6,7 +6,7 @@ use common::lengths::{longest, shortest};
 use common::process::printed;
 use common::recording::{every_character, sending};
 use common::sheets::{refused, sheet};
-use common::{sines, BANDS};
+use common::{sines, BANDS, NO_BAND};
 use reference::programs::modulate;
 use reference::random::Random;
 
@@ -44,7 +44,7 @@ fn no_input() {
     assert_eq!(check(b""), refused(1));
 }
 
-/// Only the digits 1 and 2 are accepted, and no length is refused before that.
+/// Only the digits of bands are accepted, and no length is refused before that.
 #[test]
 fn every_first_byte() {
     let mut random = Random::new(71);
@@ -146,7 +146,7 @@ fn the_shortest_and_the_longest_sheets() {
 fn large_inputs() {
     for count in [5_000, 65_536, 65_537, 2_000_000] {
         assert_eq!(check(&vec![b'1'; count]), refused(3), "{count}");
-        assert_eq!(check(&vec![b'3'; count]), refused(1), "{count}");
+        assert_eq!(check(&vec![b'0' + NO_BAND; count]), refused(1), "{count}");
         assert_eq!(check(&vec![0; count]), refused(1), "{count}");
     }
 }

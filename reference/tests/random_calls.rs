@@ -2,7 +2,7 @@
 
 mod common;
 
-use common::{compare, Call, Side};
+use common::{compare, Call, Side, BANDS, NO_BAND};
 use reference::random::Random;
 use reference::transmitter::State;
 
@@ -58,9 +58,9 @@ fn length(random: &mut Random, exact: usize) -> usize {
 
 /// A bad band with any phase, a bad phase with any band, or both.
 fn hostile(random: &mut Random) -> State {
-    let bad_bands = [0, 3, 4, 255];
+    let bad_bands = [0, NO_BAND, NO_BAND + 1, 255];
     let bad_band = bad_bands[random.below(bad_bands.len())];
-    let good_band = 1 + random.below(2) as u8;
+    let good_band = BANDS[random.below(BANDS.len())];
     let bad_phase = 1_920 + random.below(65_536 - 1_920) as u16;
     let good_phase = random.below(1_920) as u16;
     let (band, phase) = match random.below(3) {

@@ -2,7 +2,7 @@
 
 mod common;
 
-use common::receiver::{fresh, read, read_on, CARRIER_LOST, NO_STOP_BIT};
+use common::receiver::{fresh, read, read_on, CARRIER_LOST, EVENTS, NO_STOP_BIT};
 use common::recording::{around_0, as_events, disturbed, sending, surrounded};
 use common::{BANDS, CHARACTER_SAMPLES, IDLE_SAMPLES};
 use reference::random::Random;
@@ -46,7 +46,7 @@ fn silence_behind_every_cut() {
 #[test]
 fn another_recording_behind_every_cut() {
     let mut random = Random::new(35);
-    let mut seen = [0; 258];
+    let mut seen = [0; EVENTS];
     for band in BANDS {
         for other in BANDS {
             let (_, first) = recording(&mut random, band);

@@ -4,6 +4,7 @@ mod common;
 
 use common::receiver::{compare, FRESH, WINDOW};
 use common::states::{good_state, hostile_state, is_good, with_stage};
+use common::BANDS;
 use reference::library::Numbers;
 use reference::random::Random;
 
@@ -23,7 +24,7 @@ fn count_taken(states: impl Iterator<Item = Numbers>) -> usize {
 #[test]
 fn every_band() {
     let states = (0..=255).map(|band| Numbers { band, ..FRESH });
-    assert_eq!(count_taken(states), 2);
+    assert_eq!(count_taken(states), BANDS.len());
 }
 
 #[test]

@@ -5,7 +5,7 @@ mod common;
 use common::receiver::{fresh, read_on, CARRIER_LOST, NO_STOP_BIT};
 use common::recording::{around_0, random_blocks, sending};
 use common::states::{any_samples, steps};
-use common::{sines, BANDS};
+use common::{other_band, sines, BANDS};
 use reference::random::Random;
 
 /// How many events are characters, lack a stop bit or tell a lost carrier.
@@ -128,12 +128,12 @@ fn short_bursts_of_space() {
     assert!(most >= 170, "{most}");
 }
 
-/// The other band's tones.
+/// Another band's tones.
 #[test]
-fn sendings_of_the_other_band() {
+fn sendings_of_another_band() {
     let mut random = Random::new(22);
     for band in BANDS {
-        let mut samples = sending(3 - band, &random.bytes(250));
+        let mut samples = sending(other_band(band), &random.bytes(250));
         for sample in &mut samples {
             *sample += around_0(&mut random, 2_191);
         }

@@ -3,7 +3,7 @@
 mod common;
 
 use common::receiver::{open, FRESH};
-use common::SIDES;
+use common::{BANDS, SIDES};
 use reference::library::Numbers;
 
 /// Every place is stored, whatever stood there before.
@@ -11,7 +11,7 @@ use reference::library::Numbers;
 fn every_band_number_is_opened_alike() {
     for band in 0..=255 {
         let expected = match band {
-            1 | 2 => (0, Numbers { band, ..FRESH }),
+            _ if BANDS.contains(&band) => (0, Numbers { band, ..FRESH }),
             _ => (1, FRESH),
         };
         for side in SIDES {

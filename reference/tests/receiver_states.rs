@@ -2,7 +2,7 @@
 
 mod common;
 
-use common::receiver::{compare_accepted, CARRIER_LOST, FRESH, NO_STOP_BIT, WINDOW};
+use common::receiver::{compare_accepted, CARRIER_LOST, EVENTS, FRESH, NO_STOP_BIT, WINDOW};
 use common::states::{any_samples, good_state, steps};
 use common::{sines, BANDS};
 use reference::library::Numbers;
@@ -19,7 +19,7 @@ fn windows(band: u8) -> [[i16; WINDOW]; 3] {
 #[test]
 fn every_slot_and_wait() {
     let mut random = Random::new(38);
-    let mut seen = [0; 258];
+    let mut seen = [0; EVENTS];
     for band in BANDS {
         let windows = windows(band);
         for slot in 0..=9_u8 {
@@ -83,7 +83,7 @@ fn every_run() {
 #[test]
 fn random_states() {
     let mut random = Random::new(39);
-    let mut seen = [0; 258];
+    let mut seen = [0; EVENTS];
     for _ in 0..12_000 {
         let state = good_state(&mut random);
         let size = random.below(300);

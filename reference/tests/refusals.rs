@@ -2,19 +2,19 @@
 
 mod common;
 
-use common::{compare, Call, BANDS, CHARACTER_SAMPLES, IDLE_SAMPLES};
+use common::{compare, Call, BANDS, CHARACTER_SAMPLES, IDLE_SAMPLES, NO_BAND};
 use reference::transmitter::State;
 
 /// The states of all combinations, the good ones among them.
 fn states() -> impl Iterator<Item = State> {
     let phases = [0, 1, 1_919, 1_920, 1_921, 3_840, 32_768, 65_535];
-    let bands = [0, 1, 2, 3, 4, 128, 255];
+    let bands = [0, NO_BAND, NO_BAND + 1, 128, 255];
     let combined = move |band| phases.map(|phase| State { band, phase });
-    bands.into_iter().flat_map(combined)
+    BANDS.into_iter().chain(bands).flat_map(combined)
 }
 
 fn is_good(state: State) -> bool {
-    (1..=2).contains(&state.band) && (0..=1_919).contains(&state.phase)
+    BANDS.contains(&state.band) && (0..=1_919).contains(&state.phase)
 }
 
 /// The number of the first condition that holds, or 0.
@@ -69,7 +69,7 @@ fn no_characters_from_a_good_state_change_nothing() {
 }
 
 #[test]
-fn every_band_but_1_and_2_is_refused_with_2() {
+fn every_number_that_is_no_band_is_refused_with_2() {
     for band in 0..=255 {
         for phase in [0, 959, 1_919, 1_920, 2_048, 65_535] {
             let state = State { band, phase };

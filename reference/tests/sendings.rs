@@ -2,6 +2,7 @@
 
 mod common;
 
+use common::states::steps;
 use common::{assert_places, sines, Call, Side, BANDS, SIDES};
 use reference::random::Random;
 use reference::transmitter::State;
@@ -90,17 +91,17 @@ fn samples_do_not_depend_on_how_the_characters_are_cut() {
 /// The rule in words: each sample is S at the sum of all steps before it. The
 /// sum is kept whole here and reduced only to look up S.
 fn by_running_sum(band: u8, message: &[u8]) -> Vec<i16> {
-    let (space, mark) = if band == 1 { (214, 254) } else { (405, 445) };
+    let [space, mark] = steps(band);
     let mut bits = vec![1; 3];
     for byte in message {
         let data = (0..8).map(|place| byte / 2_u8.pow(place) % 2);
         bits.extend([0].into_iter().chain(data).chain([1]));
     }
     bits.extend([1; 3]);
-    let mut sum: u64 = 0;
+    let mut sum = 0;
     let mut samples = Vec::new();
     for sample in 0..32 * bits.len() {
-        samples.push(sines().s((sum % 1_920) as usize));
+        samples.push(sines().s(sum % 1_920));
         sum += if bits[sample / 32] == 0 { space } else { mark };
     }
     samples

@@ -41,7 +41,7 @@ const TEXTS: [&[u8]; 8] = [
     b"band\n12\nsample\n",
     b"Band\n1\nsample\n",
     b"band\n\nsample\n1\n",
-    b"band\n3\nsample\n9999\n",
+    b"band\n9\nsample\n9999\n",
     b"band\n0\nsample\nx\n",
 ];
 
@@ -108,10 +108,10 @@ fn writings() -> Vec<u8> {
         write("9, 10, 99, 100", 2, &[9, 10, 99, 100]),
         write("-9, -10, 999, 1000", 2, &[-9, -10, 999, 1000]),
         write("8191, -8191", 1, &[8191, -8191]),
-        write("band 3", 3, &[1]),
+        write("band 9", 9, &[1]),
         write("8192", 1, &[8192]),
         write("-32768", 2, &[-32768]),
-        write("band 3 and 8192", 3, &[8192]),
+        write("band 9 and 8192", 9, &[8192]),
         write("16384 samples 1000", 1, &[1000; 16_384]),
         write("16385 samples 8192", 1, &[8192; 16_385]),
         write("32 bytes", 1, &[-1000, -2000, -3000]),
@@ -139,7 +139,7 @@ fn programs() -> Vec<u8> {
     [
         modulated(b""),
         modulated(b"A"),
-        modulated(b"3A"),
+        modulated(b"9A"),
         modulated(b"1"),
         modulated(&[b'1'; 39]),
         modulated(&[b'2'; 52]),

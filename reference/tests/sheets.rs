@@ -4,7 +4,7 @@
 mod common;
 
 use common::sheets::{any_samples, any_text, lines, sheet, text, HEAD, MOST_BYTES};
-use common::{forms, BANDS};
+use common::{forms, BANDS, NO_BAND};
 use reference::random::Random;
 use reference::sheet::{read, write, ReadAnswer, WriteAnswer};
 use std::collections::HashMap;
@@ -265,7 +265,7 @@ fn the_order_of_writing() {
     let with = |count, sample, last| [vec![sample; count], vec![last]].concat();
     for (band, samples, places, number) in [
         (0, with(16_384, 8_192, 0), 0, 1),
-        (3, with(0, 1, 8_192), 0, 1),
+        (NO_BAND, with(0, 1, 8_192), 0, 1),
         (255, vec![], 0, 1),
         (1, with(16_384, -1_000, 8_192), 0, 3),
         (1, with(16_384, 0, 0), 0, 3),

@@ -66,6 +66,6 @@ fn refused(message: &[u8]) {
     large[0] = 101;
     let nothing = [0i16; LONGEST];
     run(1, message, b"one number 101", &large, 320);
-    run(3, message, b"nothing added", &nothing, 320);
+    run(9, message, b"nothing added", &nothing, 320);
     run(1, message, b"nothing added", &nothing, 0);
 }

@@ -4,7 +4,7 @@ use libc::STDOUT_FILENO;
 pub(crate) fn modulate() {
     show_modulated(b"");
     show_modulated(b"A");
-    show_modulated(b"3A");
+    show_modulated(b"9A");
     show_modulated(b"1");
     show_modulated(&[49u8; 39]);
     show_modulated(&[50u8; 52]);

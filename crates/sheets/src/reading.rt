@@ -25,7 +25,7 @@ pub(crate) fn texts() {
     read(b"band\n12\nsample\n");
     read(b"Band\n1\nsample\n");
     read(b"band\n\nsample\n1\n");
-    read(b"band\n3\nsample\n9999\n");
+    read(b"band\n9\nsample\n9999\n");
     read(b"band\n0\nsample\nx\n");
 }
 

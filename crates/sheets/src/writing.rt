@@ -12,10 +12,10 @@ pub(crate) fn lines() {
 
 // Which number comes first.
 pub(crate) fn order() {
-    write(b"band 3", 3, &[1i16; 1]);
+    write(b"band 9", 9, &[1i16; 1]);
     write(b"8192", 1, &[8192i16; 1]);
     write(b"-32768", 2, &[-32768i16; 1]);
-    write(b"band 3 and 8192", 3, &[8192i16; 1]);
+    write(b"band 9 and 8192", 9, &[8192i16; 1]);
     write(b"16384 samples 1000", 1, &[1000i16; 16384]);
     write(b"16385 samples 8192", 1, &[8192i16; 16385]);
 }

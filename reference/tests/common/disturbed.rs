@@ -22,7 +22,7 @@ pub fn printed(message: &[u8]) -> Vec<u8> {
     // The number of bytes is judged before the numbers to be added.
     let large = if message.len() > 100 { 3 } else { 5 };
     lines.push(line(1, "one number 101", 320, &refused(large)));
-    lines.push(line(3, "nothing added", 320, &refused(1)));
+    lines.push(line(9, "nothing added", 320, &refused(1)));
     lines.push(line(1, "nothing added", 0, &refused(3)));
     lines.concat()
 }

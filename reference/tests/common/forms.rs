@@ -2,6 +2,7 @@
 //! there are places enough.
 
 use super::sheets::{lines, text, BAD_LINES, HEAD, MOST_BYTES};
+use super::NO_BAND;
 
 type Numbered = (Vec<u8>, u8);
 
@@ -16,7 +17,7 @@ pub fn all() -> Vec<Numbered> {
 }
 
 fn names_and_band() -> Vec<Numbered> {
-    let texts: [(&[u8], u8); 32] = [
+    let texts: [(&[u8], u8); 31] = [
         (b"", 7),
         (b"\n", 7),
         (b"\0", 7),
@@ -28,7 +29,6 @@ fn names_and_band() -> Vec<Numbered> {
         (b"band\n1\nsample\n", 0),
         (b"band\n2\nsample\n", 0),
         (b"band\n0\nsample\n", 1),
-        (b"band\n3\nsample\n", 1),
         (b"band\n9\nsample\n", 1),
         (b"band\n12\nsample\n", 7),
         (b"band\n01\nsample\n", 7),
@@ -50,7 +50,9 @@ fn names_and_band() -> Vec<Numbered> {
         (b"sample\nband\n1\n", 7),
         (b"\xef\xbb\xbfband\n1\nsample\n", 7),
     ];
-    texts.map(|(text, number)| (text.to_vec(), number)).into()
+    let none = (text(&NO_BAND.to_string(), ""), 1);
+    let texts = texts.map(|(text, number)| (text.to_vec(), number));
+    texts.into_iter().chain([none]).collect()
 }
 
 fn bad_lines() -> Vec<Numbered> {
@@ -120,20 +122,21 @@ fn most_bytes() -> Vec<Numbered> {
 
 /// The order is 6, 7, 1, 3, 5.
 fn several_conditions() -> Vec<Numbered> {
+    let none = NO_BAND.to_string();
     let many = "0\n".repeat(16_385);
     let much = "-9999\n".repeat(11_000);
     vec![
         (text("x", &format!("{much}x")), 6),
-        (text("3", &much), 6),
+        (text(&none, &much), 6),
         (text("1", &much), 6),
-        (text("3", &format!("{many}8192\nx\n")), 7),
-        (text("3", &format!("00\n{many}")), 7),
-        (text("3", "8192\n05\n"), 7),
-        (text("3", "1"), 7),
+        (text(&none, &format!("{many}8192\nx\n")), 7),
+        (text(&none, &format!("00\n{many}")), 7),
+        (text(&none, "8192\n05\n"), 7),
+        (text(&none, "1"), 7),
         (text("1", "8192\n00\n"), 7),
         (text("1", &format!("{many}-0\n")), 7),
-        (text("3", &format!("{many}8192\n")), 1),
-        (text("3", &many), 1),
+        (text(&none, &format!("{many}8192\n")), 1),
+        (text(&none, &many), 1),
         (text("0", "8192\n"), 1),
         (text("9", "1\n"), 1),
         (text("1", &format!("{many}8192\n")), 3),

@@ -24,11 +24,18 @@ use reference::transmitter::{self, Answer, State};
 use std::sync::OnceLock;
 
 pub const BANDS: [u8; 2] = [1, 2];
+/// The first number behind them.
+pub const NO_BAND: u8 = BANDS.len() as u8 + 1;
 pub const IDLE_SAMPLES: usize = 96;
 pub const CHARACTER_SAMPLES: usize = 320;
 
 /// Places before and behind the lent ones, to find a write outside them.
 pub const GUARD: usize = 8;
+
+/// The next band, and behind the last one the first.
+pub fn other_band(band: u8) -> u8 {
+    band % BANDS.len() as u8 + 1
+}
 
 pub fn sines() -> &'static Sines {
     static SINES: OnceLock<Sines> = OnceLock::new();

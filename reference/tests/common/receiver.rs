@@ -10,6 +10,8 @@ pub const WINDOW: usize = 32;
 pub const MOST_SAMPLES: usize = 16_384;
 pub const NO_STOP_BIT: u16 = 256;
 pub const CARRIER_LOST: u16 = 257;
+/// An event is below this.
+pub const EVENTS: usize = 258;
 
 pub const FRESH: Numbers = Numbers {
     band: 1,
@@ -134,7 +136,7 @@ pub fn guarded(
     Reading { answer, places }
 }
 
-/// Differs from place to place and is never an event, which is at most 257.
+/// Differs from place to place and is never an event.
 fn fill(place: usize) -> u16 {
     u16::try_from(1_000 + place % 60_000).expect("at most 60999")
 }

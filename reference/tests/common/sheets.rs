@@ -1,6 +1,7 @@
 //! Sheets that are made by hand, whatever the reference reads and writes.
 
 use super::recording::around_0;
+use super::{BANDS, NO_BAND};
 use reference::random::Random;
 
 /// The bytes before the lines of the samples.
@@ -98,7 +99,7 @@ pub fn any_samples(random: &mut Random, count: usize) -> Vec<i16> {
 /// A sheet or almost one: the band, a line or a byte may be wrong.
 pub fn any_text(random: &mut Random) -> Vec<u8> {
     let mut text = b"band\n".to_vec();
-    text.extend_from_slice(any_band(random));
+    text.extend(any_band(random));
     text.extend(b"\nsample\n");
     for _ in 0..random.below(8) {
         text.extend(any_line(random));
@@ -109,13 +110,14 @@ pub fn any_text(random: &mut Random) -> Vec<u8> {
     text
 }
 
-fn any_band(random: &mut Random) -> &'static [u8] {
+fn any_band(random: &mut Random) -> Vec<u8> {
+    let none = [b'0' + NO_BAND];
     let others: [&[u8]; 12] = [
-        b"0", b"3", b"9", b"", b"-1", b"01", b"12", b"1\r", b" 1", b"a", b"\0", b"\xff",
+        b"0", &none, b"9", b"", b"-1", b"01", b"12", b"1\r", b" 1", b"a", b"\0", b"\xff",
     ];
     match random.below(4) {
-        0 => others[random.below(others.len())],
-        _ => [b"1", b"2"][random.below(2)],
+        0 => others[random.below(others.len())].to_vec(),
+        _ => vec![b'0' + BANDS[random.below(BANDS.len())]],
     }
 }
 

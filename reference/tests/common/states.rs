@@ -2,7 +2,7 @@
 
 use super::receiver::{FRESH, WINDOW};
 use super::recording::around_0;
-use super::sines;
+use super::{sines, BANDS, NO_BAND};
 use reference::library::Numbers;
 use reference::random::Random;
 
@@ -18,7 +18,7 @@ pub fn is_good(state: &Numbers) -> bool {
     };
     let samples = state.window.map(i32::from);
     let window = samples.iter().all(|sample| sample.abs() <= 8_191);
-    stage && window && [1, 2].contains(&state.band) && state.run <= 32
+    stage && window && BANDS.contains(&state.band) && state.run <= 32
 }
 
 /// The steps of space and mark.
@@ -68,7 +68,7 @@ pub fn any_samples(random: &mut Random, band: u8, count: usize) -> Vec<i16> {
 /// needs. Now and then it is too long, a sample is out of range, or a place is
 /// missing. A band out of range is taken for 1.
 pub fn any_block(random: &mut Random, band: u8) -> (Vec<i16>, usize) {
-    let band = if band == 2 { 2 } else { 1 };
+    let band = if BANDS.contains(&band) { band } else { 1 };
     let size = match random.below(200) {
         0 => 16_383 + random.below(3),
         _ => random.below(200),
@@ -84,7 +84,7 @@ pub fn any_block(random: &mut Random, band: u8) -> (Vec<i16>, usize) {
 
 /// Any state in range, mostly waiting, its stage in any form.
 pub fn good_state(random: &mut Random) -> Numbers {
-    let band = 1 + random.below(2) as u8;
+    let band = BANDS[random.below(BANDS.len())];
     let window = any_samples(random, band, WINDOW);
     let run = match random.below(3) {
         0 => 32,
@@ -122,7 +122,7 @@ pub fn good_state(random: &mut Random) -> Numbers {
 pub fn hostile_state(random: &mut Random) -> Numbers {
     let mut state = good_state(random);
     match random.below(6) {
-        0 => state.band = [0, 3, 4, 128, 255][random.below(5)],
+        0 => state.band = [0, NO_BAND, NO_BAND + 1, 128, 255][random.below(5)],
         1 => state.run = 33 + random.below(256 - 33) as u8,
         2 => {
             let bad = [-32_768, -8_193, -8_192, 8_192, 8_193, 32_767];
