@@ -34,12 +34,6 @@ unfolding altered
 altered-none [] = refl
 altered-none (x ∷ xs) = refl
 
-pub altered-append : (xs ys ds : List ℤ) → altered (xs ++ ys) ds ≡ altered xs ds ++ altered ys (drop (length xs) ds)
-unfolding altered
-altered-append [] ys ds = refl
-altered-append (x ∷ xs) ys [] = ap (λ (l : List ℤ). x ∷ (xs ++ l)) (sym (altered-none ys))
-altered-append (x ∷ xs) ys (d ∷ ds) = ap (λ (l : List ℤ). (x +ℤ d) ∷ l) (altered-append xs ys ds)
-
 -- ---- lists that are near
 
 module _ {n : ℕ} where

@@ -1,16 +1,15 @@
--- The cases of a call, by its tests, what the code gives in each, and what a caller is left with.
+-- The cases of a call, by its tests, and what the code gives in each.
 -- Assumes nothing.
 use mathlib.Core.Path.{_≡_, refl, _∙_, sym, ap, subst}
 use mathlib.Core.Bool.{true, false, not}
-use mathlib.Core.List.{List, _++_, append-nil}
+use mathlib.Core.List.{List}
 use mathlib.Mathlib.Data.Bool.Basic.{and-intro}
 use Prim.Native.Nat.{ℕ, suc, _*_, _<_, _≤_}
-use native.Mathlib.Omega.{arith}
 use borrow.Author.Tests.{lt-ltb, le-ltb}
 use lib.Dec.{ltb}
 use lib.IntN.{ℤ}
-use lib.ListN.{length, take, drop, drop-of-length-le}
-use lib.Seq.{sets, take-at}
+use lib.ListN.{length}
+use lib.Seq.{sets}
 use Rattle.integers.proofs.Tests.{cond-case}
 use Rattle.integers.proofs.Lists.{sets-front}
 use Rattle.calls.specs.Outcome.{Outcome, outcome, refused}
@@ -19,7 +18,7 @@ use Rattle.tones.specs.Bands.{isBand, tonesOf}
 use Rattle.transmitter.specs.declared.Transmitter.{Transmitter}
 use Rattle.transmitter.specs.declared.Sent.{Sent}
 use Rattle.transmitter.specs.Samples.{idleBits, charactersBits, sendBits, phaseBits}
-use Rattle.transmitter.specs.Calls.{fresh, openOf, inRange, samplesOf, afterBits, sent, idleOf, charactersOf}
+use Rattle.transmitter.specs.Calls.{fresh, openOf, inRange, samplesOf, sent, idleOf, charactersOf}
 use Rattle.transmitter.proofs.Laws.{length-bits}
 
 -- an opening of a band gives its fresh state, which is in its ranges
@@ -100,21 +99,3 @@ module _ (s : Transmitter) (bits : List ℕ) (lent : List ℤ) (t : Tones) (p co
       filled =
           en ∙ ap (λ (u : Tones). sets lent 0 (sendBits u (s .phase) bits)) et
           ∙ sets-front (samplesOf s bits) lent (subst (λ (n : ℕ). n ≤ length lent) size room)
-
--- ---- an accepted call: the buffer was `part` and is `now`
-
-module _ (s : Transmitter) (bits : List ℕ) (r : Sent) (part now : List ℤ) (e : outcome (r .answer) (r .transmitter) now ≡ sent s bits part) where
-  pub next-state : r .transmitter ≡ afterBits s bits
-  next-state = ap (λ (o : Outcome Transmitter ℤ). o .state) e
-
-  pub samples-front : (n : ℕ) → 32 * length bits ≡ n → take n now ≡ samplesOf s bits
-  samples-front n l =
-      ap (λ (o : Outcome Transmitter ℤ). take n (o .lent)) e
-      ∙ take-at (samplesOf s bits) (drop (length (samplesOf s bits)) part) n (length-bits (tonesOf (s .band)) (s .phase) bits ∙ l)
-
-  pub samples-whole : length part ≤ 32 * length bits → now ≡ samplesOf s bits
-  samples-whole h =
-      let l = length-bits (tonesOf (s .band)) (s .phase) bits in
-      ap (λ (o : Outcome Transmitter ℤ). o .lent) e
-      ∙ ap (λ (xs : List ℤ). samplesOf s bits ++ xs) (drop-of-length-le part {i = length (samplesOf s bits)} (omega arith))
-      ∙ append-nil (samplesOf s bits)
