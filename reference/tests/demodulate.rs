@@ -1,13 +1,13 @@
 //! The program `demodulate` against the reference, on sheets that are read.
 
-mod common;
-
-use common::process::printed;
-use common::receiver::{CARRIER_LOST, NO_STOP_BIT};
-use common::recording::{around_0, as_events, disturbed, every_character, sending, surrounded};
-use common::sheets::sheet;
-use common::states::{any_samples, steps};
-use common::{other_band, sines, BANDS, IDLE_SAMPLES};
+use crate::common::process::printed;
+use crate::common::receiver::{CARRIER_LOST, NO_STOP_BIT};
+use crate::common::recording::{
+    around_0, as_events, disturbed, every_character, sending, surrounded,
+};
+use crate::common::sheets::sheet;
+use crate::common::states::{any_samples, steps};
+use crate::common::{other_band, sines, BANDS, IDLE_SAMPLES};
 use reference::programs::demodulate;
 use reference::random::Random;
 

@@ -1,11 +1,9 @@
 //! The program `demodulate` against the reference, on texts that are no sheets
 //! or almost none, and on their neighbours.
 
-mod common;
-
-use common::process::printed;
-use common::sheets::{any_text, refused, text};
-use common::{forms, sines};
+use crate::common::process::printed;
+use crate::common::sheets::{any_text, refused, text};
+use crate::common::{forms, sines};
 use reference::programs::demodulate;
 use reference::random::Random;
 

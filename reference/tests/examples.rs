@@ -1,8 +1,6 @@
 //! Document 01's bench examples of sine and transmitter, with its numbers.
 
-mod common;
-
-use common::{Call, Side, BANDS, SIDES};
+use crate::common::{Call, Side, BANDS, SIDES};
 
 #[test]
 fn sines_of_the_bench() {

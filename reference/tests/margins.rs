@@ -1,9 +1,7 @@
 //! The margin test behind demand 3: how large a disturbance it allows, and how
 //! close its limits are.
 
-mod common;
-
-use common::sines;
+use crate::common::sines;
 use reference::disturbance::{beginnings, margins, Limits, LIMITS, MOST};
 use reference::transmitter::STEPS;
 

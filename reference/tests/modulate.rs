@@ -1,12 +1,10 @@
 //! The program `modulate` against the reference.
 
-mod common;
-
-use common::lengths::{longest, shortest};
-use common::process::printed;
-use common::recording::{every_character, sending};
-use common::sheets::{refused, sheet};
-use common::{sines, BANDS, NO_BAND};
+use crate::common::lengths::{longest, shortest};
+use crate::common::process::printed;
+use crate::common::recording::{every_character, sending};
+use crate::common::sheets::{refused, sheet};
+use crate::common::{sines, BANDS, NO_BAND};
 use reference::programs::modulate;
 use reference::random::Random;
 

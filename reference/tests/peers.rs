@@ -1,11 +1,11 @@
 //! The receivers written for speed answer as the step-by-step one does.
 
-mod common;
-
-use common::receiver::{assert_events, fresh, guarded, in_numbers};
-use common::recording::{around_0, as_events, disturbed, every_character, sending, surrounded};
-use common::states::{any_block, good_state, hostile_state};
-use common::BANDS;
+use crate::common::receiver::{assert_events, fresh, guarded, in_numbers};
+use crate::common::recording::{
+    around_0, as_events, disturbed, every_character, sending, surrounded,
+};
+use crate::common::states::{any_block, good_state, hostile_state};
+use crate::common::BANDS;
 use reference::library::Numbers;
 use reference::random::Random;
 use reference::receiver::{places_needed, Answer, State};

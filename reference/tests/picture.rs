@@ -1,10 +1,8 @@
 //! The picture in `docs/`, and what it shows: which tone wins, and when a
 //! character is reported.
 
-mod common;
-
-use common::recording::{around_0, disturbed, every_character, sending};
-use common::{sines, BANDS};
+use crate::common::recording::{around_0, disturbed, every_character, sending};
+use crate::common::{sines, BANDS};
 use reference::disturbance::{is_good, winner, Pair, LIMITS, MOST};
 use reference::picture;
 use reference::random::Random;

@@ -1,12 +1,12 @@
 //! How `modulate` and `demodulate` take their input and give their output: one
 //! behind the other, slowly, without end, or to nobody.
 
-mod common;
-
-use common::process::{ended, input_of, output_of, path, printed_slowly, printed_through, started};
-use common::recording::sending;
-use common::sheets::{lines, refused, sheet, text, HEAD, MOST_BYTES};
-use common::{sines, BANDS};
+use crate::common::process::{
+    ended, input_of, output_of, path, printed_slowly, printed_through, started,
+};
+use crate::common::recording::sending;
+use crate::common::sheets::{lines, refused, sheet, text, HEAD, MOST_BYTES};
+use crate::common::{sines, BANDS};
 use reference::programs::{demodulate, modulate};
 use reference::random::Random;
 use std::fs::File;

@@ -1,10 +1,8 @@
 //! The files with which the programs are run where they are proved, and the
 //! program `disturbed` on messages of many lengths.
 
-mod common;
-
-use common::process::{files, printed};
-use common::{disturbed, sines};
+use crate::common::process::{files, printed};
+use crate::common::{disturbed, sines};
 use reference::programs::{demodulate, modulate};
 use reference::random::Random;
 

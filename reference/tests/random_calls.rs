@@ -1,8 +1,6 @@
 //! Long rows of pseudo-random calls, refused ones among them.
 
-mod common;
-
-use common::{compare, Call, Side, BANDS, NO_BAND};
+use crate::common::{compare, Call, Side, BANDS, NO_BAND};
 use reference::random::Random;
 use reference::transmitter::State;
 

@@ -1,10 +1,8 @@
 //! Recordings cut anywhere, with silence or another recording behind.
 
-mod common;
-
-use common::receiver::{fresh, read, read_on, CARRIER_LOST, EVENTS, NO_STOP_BIT};
-use common::recording::{around_0, as_events, disturbed, sending, surrounded};
-use common::{BANDS, CHARACTER_SAMPLES, IDLE_SAMPLES};
+use crate::common::receiver::{fresh, read, read_on, CARRIER_LOST, EVENTS, NO_STOP_BIT};
+use crate::common::recording::{around_0, as_events, disturbed, sending, surrounded};
+use crate::common::{BANDS, CHARACTER_SAMPLES, IDLE_SAMPLES};
 use reference::random::Random;
 
 /// A recording of three characters with a disturbance.

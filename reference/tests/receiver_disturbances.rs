@@ -1,14 +1,12 @@
 //! Recordings with a disturbance of at most 100 in each sample. The events must
 //! be the characters all the same.
 
-mod common;
-
-use common::receiver::{assert_events, read};
-use common::recording::{
+use crate::common::receiver::{assert_events, read};
+use crate::common::recording::{
     around_0, as_events, bits, disturbed, every_character, sending, surrounded,
 };
-use common::states::steps;
-use common::{sines, BANDS};
+use crate::common::states::steps;
+use crate::common::{sines, BANDS};
 use reference::disturbance::MOST;
 use reference::random::Random;
 

@@ -2,11 +2,9 @@
 //! by 1, and the least energy of a good level. Other tests hardly ever meet
 //! one.
 
-mod common;
-
-use common::receiver::{compare_accepted, CARRIER_LOST, NO_STOP_BIT, WINDOW};
-use common::sines;
-use common::states::steps;
+use crate::common::receiver::{compare_accepted, CARRIER_LOST, NO_STOP_BIT, WINDOW};
+use crate::common::sines;
+use crate::common::states::steps;
 use reference::library::Numbers;
 
 /// A window with I and Q of space, then of mark.

@@ -1,16 +1,14 @@
 //! The library's two entries in turn, one chosen at random for each call.
 
-mod common;
-
-use common::receiver::{
+use crate::common::receiver::{
     accepted, assert_events, compare_through, fresh, read_by, read_on, ENTRIES,
 };
-use common::recording::{
+use crate::common::recording::{
     around_0, as_events, disturbed, every_character, random_blocks, sending, surrounded,
 };
-use common::refused::{refused, too_long};
-use common::states::{any_block, any_samples, hostile_state};
-use common::BANDS;
+use crate::common::refused::{refused, too_long};
+use crate::common::states::{any_block, any_samples, hostile_state};
+use crate::common::BANDS;
 use reference::disturbance::MOST;
 use reference::library::Numbers;
 use reference::random::Random;

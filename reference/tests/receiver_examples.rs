@@ -1,11 +1,9 @@
 //! Document 01's bench examples of blocks and events, with its numbers.
 
-mod common;
-
-use common::receiver::{compare, fresh, read, read_on, CARRIER_LOST, NO_STOP_BIT};
-use common::recording::sending;
-use common::states::steps;
-use common::{sines, BANDS, IDLE_SAMPLES};
+use crate::common::receiver::{compare, fresh, read, read_on, CARRIER_LOST, NO_STOP_BIT};
+use crate::common::recording::sending;
+use crate::common::states::steps;
+use crate::common::{sines, BANDS, IDLE_SAMPLES};
 
 /// The example in one block, and cut in several ways.
 const SIZES: [usize; 6] = [1, 31, 47, 48, 320, 16_384];

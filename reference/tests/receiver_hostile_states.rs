@@ -1,10 +1,8 @@
 //! States with each field out of its range in turn.
 
-mod common;
-
-use common::receiver::{compare, FRESH, WINDOW};
-use common::states::{good_state, hostile_state, is_good, with_stage};
-use common::BANDS;
+use crate::common::receiver::{compare, FRESH, WINDOW};
+use crate::common::states::{good_state, hostile_state, is_good, with_stage};
+use crate::common::BANDS;
 use reference::library::Numbers;
 use reference::random::Random;
 

@@ -1,11 +1,9 @@
 //! Noise, and bursts of tone in it, where faults are frequent.
 
-mod common;
-
-use common::receiver::{fresh, read_on, CARRIER_LOST, NO_STOP_BIT};
-use common::recording::{around_0, random_blocks, sending};
-use common::states::{any_samples, steps};
-use common::{other_band, sines, BANDS};
+use crate::common::receiver::{fresh, read_on, CARRIER_LOST, NO_STOP_BIT};
+use crate::common::recording::{around_0, random_blocks, sending};
+use crate::common::states::{any_samples, steps};
+use crate::common::{other_band, sines, BANDS};
 use reference::random::Random;
 
 /// How many events are characters, lack a stop bit or tell a lost carrier.

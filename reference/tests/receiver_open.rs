@@ -1,9 +1,7 @@
 //! The receiver's opening.
 
-mod common;
-
-use common::receiver::{open, FRESH};
-use common::{BANDS, SIDES};
+use crate::common::receiver::{open, FRESH};
+use crate::common::{BANDS, SIDES};
 use reference::library::Numbers;
 
 /// Every place is stored, whatever stood there before.

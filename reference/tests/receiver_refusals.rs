@@ -1,10 +1,8 @@
 //! Blocks that are refused, and the order of several conditions at once.
 
-mod common;
-
-use common::receiver::{compare, fresh, Reading, FRESH, MOST_SAMPLES};
-use common::states::{any_samples, good_state, hostile_state, with_stage};
-use common::BANDS;
+use crate::common::receiver::{compare, fresh, Reading, FRESH, MOST_SAMPLES};
+use crate::common::states::{any_samples, good_state, hostile_state, with_stage};
+use crate::common::BANDS;
 use reference::library::Numbers;
 use reference::random::Random;
 

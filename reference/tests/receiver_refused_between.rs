@@ -1,11 +1,9 @@
 //! Recordings with refused blocks anywhere, which must change nothing.
 
-mod common;
-
-use common::receiver::{assert_events, compare_accepted, fresh, read_by};
-use common::recording::{as_events, every_character, sending, surrounded};
-use common::refused::{refused, too_long};
-use common::BANDS;
+use crate::common::receiver::{assert_events, compare_accepted, fresh, read_by};
+use crate::common::recording::{as_events, every_character, sending, surrounded};
+use crate::common::refused::{refused, too_long};
+use crate::common::BANDS;
 use reference::random::Random;
 
 #[test]

@@ -1,10 +1,8 @@
 //! Every character in both bands, read in blocks of many sizes.
 
-mod common;
-
-use common::receiver::{assert_events, fresh, read, read_on};
-use common::recording::{as_events, every_character, random_blocks, sending, surrounded};
-use common::BANDS;
+use crate::common::receiver::{assert_events, fresh, read, read_on};
+use crate::common::recording::{as_events, every_character, random_blocks, sending, surrounded};
+use crate::common::BANDS;
 use reference::random::Random;
 
 fn read_in_blocks_of(sizes: impl Iterator<Item = usize>, band: u8, seed: u64) {

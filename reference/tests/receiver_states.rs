@@ -1,10 +1,8 @@
 //! Blocks read on from any state in range.
 
-mod common;
-
-use common::receiver::{compare_accepted, CARRIER_LOST, EVENTS, FRESH, NO_STOP_BIT, WINDOW};
-use common::states::{any_samples, good_state, steps};
-use common::{sines, BANDS};
+use crate::common::receiver::{compare_accepted, CARRIER_LOST, EVENTS, FRESH, NO_STOP_BIT, WINDOW};
+use crate::common::states::{any_samples, good_state, steps};
+use crate::common::{sines, BANDS};
 use reference::library::Numbers;
 use reference::random::Random;
 

@@ -1,8 +1,6 @@
 //! States out of range, and the order of several conditions at once.
 
-mod common;
-
-use common::{compare, Call, BANDS, CHARACTER_SAMPLES, IDLE_SAMPLES, NO_BAND};
+use crate::common::{compare, Call, BANDS, CHARACTER_SAMPLES, IDLE_SAMPLES, NO_BAND};
 use reference::transmitter::State;
 
 /// The states of all combinations, the good ones among them.

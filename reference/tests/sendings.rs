@@ -1,9 +1,7 @@
 //! Whole sendings: leader, characters and trailer, in calls cut anyhow.
 
-mod common;
-
-use common::states::steps;
-use common::{assert_places, sines, Call, Side, BANDS, SIDES};
+use crate::common::states::steps;
+use crate::common::{assert_places, sines, Call, Side, BANDS, SIDES};
 use reference::random::Random;
 use reference::transmitter::State;
 

@@ -1,10 +1,8 @@
 //! The output that the program `sheets` is held to, from the reference's reader,
 //! writer and programs.
 
-mod common;
-
-use common::process::{output_file, printed};
-use common::sines;
+use crate::common::process::{output_file, printed};
+use crate::common::sines;
 use reference::programs::{demodulate, modulate};
 use reference::sheet::{self, WriteAnswer};
 

@@ -1,12 +1,10 @@
 //! Which messages fit a sheet, computed for all messages and not only for some:
 //! those of up to 37 characters, and none of 38 to 50.
 
-mod common;
-
-use common::lengths::{longest, shortest, Text};
-use common::recording::sending;
-use common::sheets::{refused, sheet, MOST_BYTES};
-use common::{sines, BANDS};
+use crate::common::lengths::{longest, shortest, Text};
+use crate::common::recording::sending;
+use crate::common::sheets::{refused, sheet, MOST_BYTES};
+use crate::common::{sines, BANDS};
 use reference::programs::modulate;
 use reference::random::Random;
 

@@ -1,10 +1,8 @@
 //! The reference's own reader and writer of sheets, against each other and
 //! against texts made by hand.
 
-mod common;
-
-use common::sheets::{any_samples, any_text, lines, sheet, text, HEAD, MOST_BYTES};
-use common::{forms, BANDS, NO_BAND};
+use crate::common::sheets::{any_samples, any_text, lines, sheet, text, HEAD, MOST_BYTES};
+use crate::common::{forms, BANDS, NO_BAND};
 use reference::random::Random;
 use reference::sheet::{read, write, ReadAnswer, WriteAnswer};
 use std::collections::HashMap;

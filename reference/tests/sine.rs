@@ -1,8 +1,6 @@
 //! The library's sine and cosine against the rule.
 
-mod common;
-
-use common::sines;
+use crate::common::sines;
 use reference::library;
 
 fn compare(phases: impl Iterator<Item = usize>) {

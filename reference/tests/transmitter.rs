@@ -1,8 +1,6 @@
 //! Accepted and refused transmitter calls, each compared in every place.
 
-mod common;
-
-use common::{compare, Call, Side, BANDS, CHARACTER_SAMPLES, IDLE_SAMPLES};
+use crate::common::{compare, Call, Side, BANDS, CHARACTER_SAMPLES, IDLE_SAMPLES};
 use reference::random::Random;
 use reference::transmitter::State;
 

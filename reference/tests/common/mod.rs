@@ -5,9 +5,6 @@
 //! sheets, `lengths` how long they are, and `disturbed` what the program of that
 //! name prints.
 
-// Each test file uses a part of this.
-#![allow(dead_code)]
-
 pub mod disturbed;
 pub mod forms;
 pub mod lengths;
