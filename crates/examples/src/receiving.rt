@@ -4,9 +4,9 @@ use crate::printing::show_count;
 use crate::printing::show_list;
 use crate::printing::show_places;
 use crate::printing::show_sample;
+use control::Stage;
 use libc::STDOUT_FILENO;
 use receiver::Receiver;
-use receiver::Stage;
 
 // 1,000 zeros, 1,000 samples of space, and a character that breaks off.
 pub(crate) fn faults() {

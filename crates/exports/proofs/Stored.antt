@@ -10,8 +10,8 @@ use Rattle.calls.specs.Outcome.{Outcome, outcome}
 use Rattle.receiver.specs.declared.Receiver.{Receiver}
 use Rattle.receiver.specs.declared.Reading.{Reading}
 use Rattle.receiver.specs.Calls.{blockOf}
-use Rattle.receiver.specs.declared.Stage.{Stage}
-use Rattle.receiver.specs.declared.Stage.the-variants.{Searching, Waiting}
+use Rattle.control.specs.declared.Stage.{Stage}
+use Rattle.control.specs.declared.Stage.the-variants.{Searching, Waiting}
 use Rattle.exports.specs.Receiving.{StateNumbers, stageNumbers, stageOf, numbersOf, receiverOf, nextNumbers, blockNumbers}
 
 -- what one call stores, the next one takes for the same state

@@ -4,9 +4,9 @@ ghost use Rattle.calls.specs.Outcome.{outcome};
 ghost use Rattle.receiver.specs.Calls.{openOf};
 ghost use Rattle.exports.specs.Numbers.{answer};
 ghost use Rattle.exports.specs.Receiving.{stageOf, stageNumbers, stateNumbers, numbersOf, receiverOf, nextNumbers, blockNumbers};
+use control::Stage;
 use receiver::Reading;
 use receiver::Receiver;
-use receiver::Stage;
 
 // Opens the wanted band and stores the state.
 #[no_mangle]

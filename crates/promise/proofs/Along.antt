@@ -11,9 +11,10 @@ use lib.Seq.{drop-drop}
 use Rattle.integers.specs.Near.{Near}
 use Rattle.integers.proofs.Near.{near-length, near-take, near-drop}
 use Rattle.calls.specs.Runs.{gives}
-use Rattle.receiver.specs.declared.Decision.{Decision}
-use Rattle.receiver.specs.Step.{Control, controlAfter, reported}
-use Rattle.receiver.specs.Windows.{decisions, reports}
+use Rattle.control.specs.declared.Decision.{Decision}
+use Rattle.control.specs.Control.{Control}
+use Rattle.control.specs.Rules.{controlAfter, reported, reports}
+use Rattle.receiver.specs.Windows.{decisions}
 use Rattle.receiver.proofs.Windows.{decisions-more}
 use Rattle.promise.proofs.Steps.{Moves}
 

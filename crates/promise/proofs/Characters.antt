@@ -16,10 +16,11 @@ use lib.ListN.{getD}
 use lib.Pow.{mod-pow-add}
 use Rattle.transmitter.specs.Samples.{charBits}
 use Rattle.transmitter.proofs.Laws.{bitAt, bit-start, bit-data, bit-stop}
-use Rattle.receiver.specs.declared.Decision.{Decision}
-use Rattle.receiver.specs.declared.Stage.the-variants.{Searching, Waiting}
-use Rattle.receiver.specs.Step.{Control, quiet, gathered}
-use Rattle.receiver.proofs.Rules.{wait-taken, start-found, data-bit}
+use Rattle.control.specs.declared.Decision.{Decision}
+use Rattle.control.specs.declared.Stage.the-variants.{Searching, Waiting}
+use Rattle.control.specs.Control.{Control}
+use Rattle.control.specs.Rules.{quiet, gathered}
+use Rattle.control.proofs.Rules.{wait-taken, start-found, data-bit}
 use Rattle.margin.specs.Windows.{isSpace}
 use Rattle.promise.proofs.Steps.{at, reads, Moves, moves-on, full, goes, waits, searches, finds, stops, either-bit}
 use Rattle.promise.proofs.Windows.{Read}

@@ -8,10 +8,11 @@ use mathlib.Core.Logic.{_⊎_, inl, inr, ⊎-elim}
 use Prim.Native.Nat.{ℕ, zero, suc, _+_, _≤_, _<_, min}
 use native.Mathlib.Decide.{decLe, ℕ-discrete}
 use native.Mathlib.Omega.{arith}
-use Rattle.receiver.specs.declared.Decision.{Decision}
-use Rattle.receiver.specs.declared.Stage.the-variants.{Searching, Waiting}
-use Rattle.receiver.specs.Step.{Control, quiet, runAfter, nextOf}
-use Rattle.receiver.proofs.Rules.{search-found, search-short, search-mark, wait-taken, start-weak}
+use Rattle.control.specs.declared.Decision.{Decision}
+use Rattle.control.specs.declared.Stage.the-variants.{Searching, Waiting}
+use Rattle.control.specs.Control.{Control}
+use Rattle.control.specs.Rules.{quiet, runAfter, nextOf}
+use Rattle.control.proofs.Rules.{search-found, search-short, search-mark, wait-taken, start-weak}
 use Rattle.promise.proofs.Steps.{at, reads, Moves, moves, waits}
 
 -- a search, with any run: it goes on or finds a start

@@ -18,10 +18,10 @@ use Rattle.sine.proofs.Wave.{length-wave}
 use Rattle.tones.specs.declared.Tones.{Tones}
 use Rattle.transmitter.specs.Samples.{send, bitSteps, sendBits, idleBits, dataBits, charBits, charactersBits}
 use Rattle.transmitter.proofs.Laws.{bitAt, length-char}
-use Rattle.receiver.specs.declared.Stage.the-variants.{Searching}
+use Rattle.control.specs.declared.Stage.the-variants.{Searching}
 use Rattle.receiver.specs.Energy.{decisionOf}
-use Rattle.receiver.specs.Step.{Control}
-use Rattle.receiver.specs.Windows.{reports}
+use Rattle.control.specs.Control.{Control}
+use Rattle.control.specs.Rules.{reports}
 use Rattle.receiver.proofs.Windows.{decisions-none}
 use Rattle.margin.specs.Windows.{phaseAfterBit, markThenSilence, Margins}
 use Rattle.promise.specs.Recordings.{AreBytes, silence}

@@ -8,12 +8,13 @@ use Prim.Native.Nat.{ℕ, suc}
 use native.Mathlib.Nat.{le-refl}
 use native.Mathlib.Numerals.{sub-one}
 use native.Mathlib.Omega.{arith}
-use Rattle.receiver.specs.declared.Decision.{Decision}
-use Rattle.receiver.specs.declared.Next.{Next}
-use Rattle.receiver.specs.declared.Stage.{Stage}
-use Rattle.receiver.specs.declared.Stage.the-variants.{Searching, Waiting}
-use Rattle.receiver.specs.Step.{Control, numbers, quiet, report, runAfter, nextOf, controlAfter, reported}
-use Rattle.receiver.proofs.Rules.{control-after, events-reported, search-found, search-mark, wait-more, wait-taken, run-full, stop-mark}
+use Rattle.control.specs.declared.Decision.{Decision}
+use Rattle.control.specs.declared.Next.{Next}
+use Rattle.control.specs.declared.Stage.{Stage}
+use Rattle.control.specs.declared.Stage.the-variants.{Searching, Waiting}
+use Rattle.control.specs.Control.{Control}
+use Rattle.control.specs.Rules.{numbers, quiet, report, runAfter, nextOf, controlAfter, reported}
+use Rattle.control.proofs.Rules.{control-after, events-reported, search-found, search-mark, wait-more, wait-taken, run-full, stop-mark}
 use Rattle.margin.specs.Windows.{isSpace}
 
 abbrev pub at : ℕ → Stage → Control

@@ -1,6 +1,5 @@
 pub mod Energies
 pub mod Correlation
-pub mod Rules
 pub mod Ranges
 pub mod Counting
 pub mod Windows

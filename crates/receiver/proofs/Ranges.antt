@@ -1,131 +1,21 @@
--- What the range tests say, and that the step rule keeps the ranges.
+-- What the range tests of a state say, and that the step rule keeps the ranges.
 -- Assumes nothing.
-use mathlib.Core.Path.{_≡_, refl, ap, _∙_}
-use mathlib.Core.Bool.{Bool, true, not, cond, _&&_}
+use mathlib.Core.Path.{_≡_, refl, _∙_}
+use mathlib.Core.Bool.{Bool, true, _&&_}
 use mathlib.Core.List.{List, [], _∷_}
 use mathlib.Mathlib.Data.Bool.Basic.{and-elim-left, and-elim-right, and-intro}
-use Prim.Native.Nat.{ℕ, suc, _+_, _-_, _*_, _^_, _<_, _≤_, min}
-use native.Mathlib.Omega.{arith}
-use borrow.Author.Tests.{lt-ltb, le-ltb, le-leb, ne-eqb, ltb-true, leb-true, eqb-true, eqb-false}
-use lib.Dec.{ltb, leb, eqb}
+use Prim.Native.Nat.{ℕ}
 use lib.IntN.{ℤ}
-use lib.Pow.{pow-mono}
 use lib.ListN.{drop}
-use Rattle.integers.proofs.Tests.{cond-case, cond-split}
 use Rattle.calls.specs.Runs.{after}
 use Rattle.tones.specs.Bands.{isBand}
 use Rattle.tones.specs.Samples.{isSample, areBetween, areSamples}
 use Rattle.tones.proofs.Samples.{samples-append, samples-drop}
-use Rattle.receiver.specs.declared.Decision.{Decision}
-use Rattle.receiver.specs.declared.Next.{Next}
-use Rattle.receiver.specs.declared.Stage.{Stage}
-use Rattle.receiver.specs.declared.Stage.the-variants.{Searching, Waiting}
+use Rattle.control.specs.Control.{isStage, isControl}
+use Rattle.control.proofs.Ranges.{control-kept}
 use Rattle.receiver.specs.declared.Receiver.{Receiver}
-use Rattle.receiver.specs.Step.{runAfter, gathered, taken, nextOf, Control, controlAfter, controlOf, decisionAt, stepOf, stateAfter}
-use Rattle.receiver.specs.Windows.{follow}
-use Rattle.receiver.specs.Calls.{fresh, openOf, isWait, isSlot, isStage, isControl, inRange}
-
--- ---- waits
-
-pub wait-low : (wait slot : ℕ) → isWait wait slot ≡ true → 1 ≤ wait
-wait-low wait slot h = leb-true 1 wait (and-elim-left (leb 1 wait) (leb wait (cond (eqb slot 0) 16 32)) h)
-
-wait-less : (wait slot : ℕ) → 1 < wait → isWait wait slot ≡ true → isWait (wait - 1) slot ≡ true
-wait-less wait slot h w =
-    let most : ℕ = cond (eqb slot 0) 16 32 in
-    let l : wait ≤ most = leb-true wait most (and-elim-right (leb 1 wait) (leb wait most) w) in
-    and-intro (le-leb 1 (wait - 1) (omega arith)) (le-leb (wait - 1) most (omega arith))
-
-wait-32 : (slot : ℕ) → isWait 32 (slot + 1) ≡ true
-wait-32 slot = rw (ne-eqb (slot + 1) 0 (λ e. omega arith)) refl
-
--- ---- slots
-
--- the byte is below the weight of the next data bit
-pub slot-below : (slot byte : ℕ) → (slot ≡ 0 → ⊥) → isSlot slot byte ≡ true → byte < 2 ^ (slot - 1)
-unfolding isSlot
-slot-below slot byte nz h =
-    cond-split (λ (b : Bool). b ≡ true → byte < 2 ^ (slot - 1)) (ltb slot 2) (eqb byte 0) (ltb byte (2 ^ (slot - 1)))
-    (λ l e.
-    let k : slot < 2 = ltb-true slot 2 l in
-    let one : slot ≡ 1 = omega arith in
-    rw (one, eqb-true byte 0 e) (omega arith))
-    (λ l e. ltb-true byte (2 ^ (slot - 1)) e)
-    (and-elim-right (leb slot 9) (cond (ltb slot 2) (eqb byte 0) (ltb byte (2 ^ (slot - 1)))) h)
-
--- the weight of a data bit fits a byte
-pub weight-most : (slot : ℕ) → slot ≤ 8 → 2 ^ (slot - 1) ≤ 128
-weight-most slot h = pow-mono {i = slot - 1} {j = 7} (omega arith)
-
--- the next slot, with the bit gathered
-slot-next : (slot byte : ℕ) (space : Bool) → (slot ≡ 0 → ⊥) → slot ≤ 8 → byte < 2 ^ (slot - 1) → isSlot (slot + 1) (gathered slot byte space) ≡ true
-unfolding isSlot
-slot-next slot byte space nz h l =
-    and-intro (le-leb (slot + 1) 9 (omega arith)) (rw (le-ltb (slot + 1) 2 (omega arith)) (lt-ltb (gathered slot byte space) (2 ^ (slot + 1 - 1)) below))
-  where
-    doubled : 2 ^ (slot + 1 - 1) ≡ 2 * 2 ^ (slot - 1)
-    doubled = let e : slot + 1 - 1 ≡ suc (slot - 1) = omega arith in ap (λ (n : ℕ). 2 ^ n) e ∙ omega arith
-
-    below : gathered slot byte space < 2 ^ (slot + 1 - 1)
-    below = rw doubled (cond-case (λ (n : ℕ). n < 2 * 2 ^ (slot - 1)) space byte (byte + 2 ^ (slot - 1)) (omega arith) (omega arith))
-
--- ---- stages
-
-pub stage-wait : (wait slot byte : ℕ) → isStage (Waiting wait slot byte) ≡ true → isWait wait slot ≡ true
-unfolding isStage
-stage-wait wait slot byte h = and-elim-left (isWait wait slot) (isSlot slot byte) h
-
-pub stage-slot : (wait slot byte : ℕ) → isStage (Waiting wait slot byte) ≡ true → isSlot slot byte ≡ true
-unfolding isStage
-stage-slot wait slot byte h = and-elim-right (isWait wait slot) (isSlot slot byte) h
-
--- the stage after a sample
-abbrev Kept : Next → Type 0
-Kept n = isStage (n .stage) ≡ true
-
-taken-kept : (slot byte : ℕ) (d : Decision) → isSlot slot byte ≡ true → Kept (taken slot byte d)
-unfolding taken isStage isSlot
-taken-kept slot byte d h =
-    cond-split Kept (eqb slot 0) _ _
-    (λ z. cond-case Kept (d .good && d .space) _ _ refl refl)
-    (λ z.
-    let nz : slot ≡ 0 → ⊥ = eqb-false slot 0 z in
-    cond-split Kept (leb slot 8) _ _
-    (λ l. cond-case Kept (not (d .good)) _ _ refl
-    (and-intro (wait-32 slot) (slot-next slot byte (d .space) nz (leb-true slot 8 l) (slot-below slot byte nz h))))
-    (λ l. cond-case Kept (not (d .good)) _ _ refl (cond-case Kept (d .space) _ _ refl refl)))
-
-next-kept : (stage : Stage) (run : ℕ) (d : Decision) → isStage stage ≡ true → Kept (nextOf stage run d)
-unfolding nextOf isStage isSlot
-next-kept Searching run d h = cond-case Kept (eqb run 32 && d .space) _ _ refl refl
-next-kept (Waiting wait slot byte) run d h =
-    cond-split Kept (eqb (wait - 1) 0) _ _
-    (λ e. taken-kept slot byte d (stage-slot wait slot byte h))
-    (λ e.
-    let nz : wait - 1 ≡ 0 → ⊥ = eqb-false (wait - 1) 0 e in
-    and-intro (wait-less wait slot (omega (arith, nz)) (stage-wait wait slot byte h)) (stage-slot wait slot byte h))
-
--- ---- run and stage
-
-pub control-stage : (c : Control) → isControl c ≡ true → isStage (c .stage) ≡ true
-unfolding isControl
-control-stage c h = and-elim-right (leb (c .run) 32) (isStage (c .stage)) h
-
-run-kept : (run : ℕ) (good : Bool) → runAfter run good ≤ 32
-run-kept run good = cond-case (λ (n : ℕ). n ≤ 32) good (min (run + 1) 32) 0 (omega arith) (omega arith)
-
-pub control-kept : (c : Control) (d : Decision) → isControl c ≡ true → isControl (controlAfter c d) ≡ true
-unfolding isControl controlAfter
-control-kept c d h =
-    let run : ℕ = runAfter (c .run) (d .good) in
-    and-intro (le-leb run 32 (run-kept (c .run) (d .good))) (next-kept (c .stage) run d (control-stage c h))
-
-pub follow-kept : (c : Control) (ds : List Decision) → isControl c ≡ true → isControl (follow c ds) ≡ true
-unfolding after
-follow-kept c [] h = h
-follow-kept c (d ∷ ds) h = follow-kept (controlAfter c d) ds (control-kept c d h)
-
--- ---- states
+use Rattle.receiver.specs.Step.{controlOf, decisionAt, stepOf, stateAfter}
+use Rattle.receiver.specs.Calls.{fresh, openOf, inRange}
 
 pub record InRange (s : Receiver) : Type 0 where
   pub band : isBand (s .band) ≡ true

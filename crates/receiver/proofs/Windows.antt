@@ -12,11 +12,12 @@ use lib.Seq.{take-all, take-at, append-snoc, drop-append-le, drop-drop, take-app
 use Rattle.integers.proofs.Tests.{lt-or-le}
 use Rattle.calls.specs.Runs.{after, gives}
 use Rattle.tones.specs.Bands.{tonesOf}
-use Rattle.receiver.specs.declared.Decision.{Decision}
+use Rattle.control.specs.declared.Decision.{Decision}
+use Rattle.control.specs.Rules.{reported, follow, reports}
 use Rattle.receiver.specs.declared.Receiver.{Receiver}
 use Rattle.receiver.specs.Energy.{decisionOf}
-use Rattle.receiver.specs.Step.{reported, controlOf, entered, decisionAt, stepOf, eventsAt, stateAfter, eventsAfter}
-use Rattle.receiver.specs.Windows.{decisions, follow, reports}
+use Rattle.receiver.specs.Step.{controlOf, entered, decisionAt, stepOf, eventsAt, stateAfter, eventsAfter}
+use Rattle.receiver.specs.Windows.{decisions, decisionsOf}
 
 length-entered : (window : List ℤ) (x : ℤ) → length window ≡ 32 → length (entered window x) ≡ 32
 length-entered window x e = omega (arith, length-append (drop 1 window) (x ∷ []), length-drop 1 window)
@@ -70,7 +71,7 @@ module _ (decide : List ℤ → Decision) where
 
 -- the decisions at the windows that the samples xs complete
 abbrev pub decisionsOver : Receiver → List ℤ → List Decision
-decisionsOver s xs = decisions (decisionOf (tonesOf (s .band))) (drop 1 (s .window) ++ xs)
+decisionsOver s xs = decisionsOf (s .band) (drop 1 (s .window) ++ xs)
 
 pub record ByWindows (s : Receiver) (xs : List ℤ) : Type 0 where
   pub control : controlOf (stateAfter s xs) ≡ follow (controlOf s) (decisionsOver s xs)
@@ -80,7 +81,7 @@ pub by-windows : (s : Receiver) (xs : List ℤ) → length (s .window) ≡ 32 �
 unfolding stepOf eventsAt after gives
 by-windows s [] e =
     let none : decisionsOver s [] ≡ [] =
-    ap (decisions (decisionOf (tonesOf (s .band)))) (append-nil (drop 1 (s .window)))
+    ap (decisionsOf (s .band)) (append-nil (drop 1 (s .window)))
     ∙ decisions-none (decisionOf (tonesOf (s .band))) (drop 1 (s .window)) (omega (arith, length-drop 1 (s .window))) in
     record { control = ap (follow (controlOf s)) (sym none); events = ap (reports (controlOf s)) (sym none) }
 by-windows s (x ∷ xs) e =

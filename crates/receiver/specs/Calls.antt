@@ -1,20 +1,20 @@
 -- The receiver's calls: document 01, "Reader, step by step" and "Refused calls". A number is given if and only if its condition is
 -- the first that holds.
 -- Assumes nothing.
-use mathlib.Core.Bool.{Bool, true, cond, not, _&&_}
+use mathlib.Core.Bool.{Bool, cond, not, _&&_}
 use mathlib.Core.List.{List}
-use Prim.Native.Nat.{ℕ, _+_, _-_, _^_, _/_}
-use lib.Dec.{ltb, leb, eqb}
+use Prim.Native.Nat.{ℕ, _+_, _/_}
+use lib.Dec.{ltb}
 use lib.IntN.{ℤ, pos}
 use lib.ListN.{length, replicate}
 use Rattle.calls.specs.Outcome.{Outcome, refused, accepted}
 use Rattle.tones.specs.Bands.{isBand}
 use Rattle.tones.specs.Samples.{areSamples}
-use Rattle.receiver.specs.declared.Stage.{Stage}
-use Rattle.receiver.specs.declared.Stage.the-variants.{Searching, Waiting}
+use Rattle.control.specs.declared.Stage.the-variants.{Searching}
+use Rattle.control.specs.Control.{isControl}
 use Rattle.receiver.specs.declared.Receiver.{Receiver}
 use Rattle.receiver.specs.declared.Opened.{Opened}
-use Rattle.receiver.specs.Step.{Control, controlOf, stateAfter, eventsAfter}
+use Rattle.receiver.specs.Step.{controlOf, stateAfter, eventsAfter}
 
 -- ---- opening
 
@@ -27,23 +27,6 @@ unfoldable pub openOf : ℕ → Opened
 openOf band = cond (isBand band) (record { number = 0; receiver = fresh band }) (record { number = 1; receiver = fresh 1 })
 
 -- ---- the ranges of a state
-
--- at slot 0 the wait is 1 to 16, otherwise 1 to 32
-abbrev pub isWait : ℕ → ℕ → Bool
-isWait wait slot = leb 1 wait && leb wait (cond (eqb slot 0) 16 32)
-
--- a slot is 0 to 9, and the byte gathered before it is 0 for slots below 2 and below 2^(slot - 1) above
-unfoldable pub isSlot : ℕ → ℕ → Bool
-isSlot slot byte = leb slot 9 && cond (ltb slot 2) (eqb byte 0) (ltb byte (2 ^ (slot - 1)))
-
--- searching has no field; waiting has a wait, a slot and a byte
-unfoldable pub isStage : Stage → Bool
-isStage Searching = true
-isStage (Waiting wait slot byte) = isWait wait slot && isSlot slot byte
-
--- a run is 0 to 32
-unfoldable pub isControl : Control → Bool
-isControl c = leb (c .run) 32 && isStage (c .stage)
 
 -- every field by itself is in its range, each of the 32 samples too (decision 18)
 unfoldable pub inRange : Receiver → Bool

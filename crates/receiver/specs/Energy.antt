@@ -11,7 +11,7 @@ use Rattle.integers.specs.Sums.{dot, sumTo, Bounded}
 use Rattle.sine.specs.Sine.{S, C}
 use Rattle.tones.specs.declared.Tones.{Tones}
 use Rattle.tones.specs.Samples.{areSamples}
-use Rattle.receiver.specs.declared.Decision.{Decision}
+use Rattle.control.specs.declared.Decision.{Decision}
 
 -- ---- rule 2, for the tone with step t
 

@@ -8,18 +8,20 @@ ghost use lib.ListN.{length, take};
 ghost use lib.Seq.{sets};
 ghost use Rattle.calls.specs.Outcome.{outcome, accepted};
 ghost use Rattle.tones.specs.Samples.{areSamples};
+ghost use Rattle.control.specs.Control.{isControl};
+ghost use Rattle.control.specs.Rules.{numbers, reported, reports};
 ghost use Rattle.receiver.specs.Energy.{AreWeights, decisionBy};
-ghost use Rattle.receiver.specs.Step.{numbers, stateAfter, eventsAfter};
-ghost use Rattle.receiver.specs.Windows.{decisions, reports, controlIn, progressed, lastWindow};
-ghost use Rattle.receiver.specs.Calls.{fresh, isControl, inRange, placesFor};
-use super::Event;
+ghost use Rattle.receiver.specs.Step.{stateAfter, eventsAfter};
+ghost use Rattle.receiver.specs.Windows.{decisions, decisionsOf, controlIn, advanced, progressed, lastWindow};
+ghost use Rattle.receiver.specs.Calls.{fresh, inRange, placesFor};
 use super::Progress;
 use super::Reading;
 use super::Receiver;
-use super::Stage;
-use super::control;
 use super::energy;
 use calls::Answer;
+use control::Decision;
+use control::Event;
+use control::Stage;
 
 pub(crate) fn fresh(band: u8) -> Receiver
     ensures { λ r. ⌜ r ≡ fresh band ⌝ }
@@ -42,11 +44,6 @@ pub(crate) fn read(receiver: Receiver, samples: &[i16], events: &mut [u16]) -> R
     let band = receiver.band;
     let old = receiver.window;
     let stage = receiver.stage;
-    let tones = tones::tones_of(band);
-    let c0 = sine::tone(tones.space, 480);
-    let s0 = sine::tone(tones.space, 0);
-    let c1 = sine::tone(tones.mark, 480);
-    let s1 = sine::tone(tones.mark, 0);
     let first = Progress {
         run: receiver.run,
         stage,
@@ -56,25 +53,48 @@ pub(crate) fn read(receiver: Receiver, samples: &[i16], events: &mut [u16]) -> R
     let head = joined(&old, samples, n);
     // The head's first window is the old one, which was judged with its last sample.
     let end = 32 + n;
-    let p = scan(&head[1..end], &c0, &s0, &c1, &s1, events, first);
-    let q = scan(samples, &c0, &s0, &c1, &s1, events, p);
+    let last = scan_all(band, &head[1..end], samples, events, first);
     let window = last_window(&head, samples);
-    let last = q.stage;
+    let next = last.stage;
     Reading {
         receiver: Receiver {
             band,
             window,
-            run: q.run,
-            stage: last,
+            run: last.run,
+            stage: next,
         },
         answer: Answer {
             number: 0,
-            count: q.count,
+            count: last.count,
         },
     }
 }
 
-// Judges every window of the source, the head or the block itself, and reads on from the progress so far.
+// Judges every window of the head, and then every window of the block.
+fn scan_all(
+    band: u8,
+    head: &[i16],
+    samples: &[i16],
+    events: &mut [u16],
+    first: Progress,
+) -> Progress
+    requires { ⌜ (areSamples (now head) ≡ true) × (areSamples (now samples) ≡ true) ⌝ }
+    requires { ⌜ isControl (controlIn first) ≡ true ⌝ }
+    requires { ⌜ first .count + length (reports (controlIn first) (decisionsOf band (now head) ++ decisionsOf band (now samples))) ≤ length (now events) ⌝ }
+    ensures reached { λ r. ⌜ r ≡ progressed first (decisionsOf band (now (head .entry)) ++ decisionsOf band (now (samples .entry))) ⌝ }
+    ensures lent { λ r. ⌜ now (events .exit) ≡ sets (now (events .entry)) (first .count)
+        (reports (controlIn first) (decisionsOf band (now (head .entry)) ++ decisionsOf band (now (samples .entry)))) ⌝ }
+{
+    let tones = tones::tones_of(band);
+    let c0 = sine::tone(tones.space, 480);
+    let s0 = sine::tone(tones.space, 0);
+    let c1 = sine::tone(tones.mark, 480);
+    let s1 = sine::tone(tones.mark, 0);
+    let p = scan(head, &c0, &s0, &c1, &s1, events, first);
+    scan(samples, &c0, &s0, &c1, &s1, events, p)
+}
+
+// Judges every window of the source, and reads on from the progress so far.
 fn scan(
     source: &[i16],
     c0: &[i16; 32],
@@ -93,26 +113,41 @@ fn scan(
     ensures lent { λ r. ⌜ now (events .exit) ≡ sets (now (events .entry)) (p .count) (reports (controlIn p)
         (decisions (decisionBy (now (c0 .entry)) (now (s0 .entry)) (now (c1 .entry)) (now (s1 .entry))) (now (source .entry)))) ⌝ }
 {
-    let mut run = p.run;
-    let mut stage = p.stage;
-    let mut count = p.count;
+    let mut reached = p;
     let mut k: usize = 0;
     while k + 32 <= source.len() {
         let end = k + 32;
         let d = energy::decide(&source[k..end], c0, s0, c1, s1);
-        run = control::run_after(run, d.good);
-        if control::is_due(stage) {
-            let n = control::take(stage, d);
-            let after = n.stage;
-            let event = n.event;
-            count = put(events, count, event);
-            stage = after;
-        } else {
-            stage = control::go_on(stage, run, d);
-        }
+        reached = advance(reached, d, events);
         k += 1;
     }
-    Progress { run, stage, count }
+    reached
+}
+
+// What one decision does to the progress. Samples at which no wait ends bring no event, and are kept out of the way of the others.
+fn advance(p: Progress, d: Decision, events: &mut [u16]) -> Progress
+    requires { ⌜ isControl (controlIn p) ≡ true ⌝ }
+    requires { ⌜ p .count + length (reported (controlIn p) d) ≤ length (now events) ⌝ }
+    ensures reached { λ r. ⌜ r ≡ advanced p d ⌝ }
+    ensures lent { λ r. ⌜ now (events .exit) ≡ sets (now (events .entry)) (p .count) (reported (controlIn p) d) ⌝ }
+{
+    let stage = p.stage;
+    let run = control::run_after(p.run, d.good);
+    if control::is_due(stage) {
+        let n = control::take(stage, d);
+        let after = n.stage;
+        let event = n.event;
+        return Progress {
+            run,
+            stage: after,
+            count: put(events, p.count, event),
+        };
+    }
+    Progress {
+        run,
+        stage: control::go_on(stage, run, d),
+        count: p.count,
+    }
 }
 
 // Writes the event, if there is one, to the place `at`, and gives the place behind it.

@@ -3,7 +3,7 @@ ghost use mathlib.Core.Path.{_≡_};
 ghost use Prim.Native.Nat.{_≤_};
 ghost use lib.IntN.{natAbs, _+ℤ_, _*ℤ_};
 ghost use Rattle.receiver.specs.Energy.{decided, IsWindow, AreWeights, energyBy, decisionBy};
-use super::Decision;
+use control::Decision;
 
 // The decision at a window, from the cosines and sines of the tones of space (bit 0) and mark (bit 1).
 pub(crate) fn decide(

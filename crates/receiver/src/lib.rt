@@ -5,17 +5,10 @@ ghost use Rattle.calls.specs.Outcome.{outcome};
 ghost use Rattle.receiver.specs.Calls.{openOf, inRange, blockOf};
 
 mod block;
-mod control;
 mod energy;
 
 use calls::Answer;
-
-// What the receiver does between samples: it searches for a start bit, or waits for a bit slot (document 01's moment: 0
-// start, 1 to 8 data, 9 stop) with the byte gathered so far.
-pub enum Stage {
-    Searching,
-    Waiting { wait: u8, slot: u8, byte: u8 },
-}
+use control::Stage;
 
 // A band, the last 32 samples, oldest first, the run of samples with a good level, and the stage.
 pub struct Receiver {
@@ -35,24 +28,6 @@ pub struct Opened {
 pub struct Reading {
     pub receiver: Receiver,
     pub answer: Answer,
-}
-
-// What the energies of a window decide: the level is good; space is above mark.
-pub struct Decision {
-    pub good: bool,
-    pub space: bool,
-}
-
-// A character (0 to 255), 256 for no stop bit or 257 for a lost carrier; or nothing.
-pub enum Event {
-    Nothing,
-    Number(u16),
-}
-
-// The stage after a sample, and its event.
-pub struct Next {
-    pub stage: Stage,
-    pub event: Event,
 }
 
 // How far a block is read: run and stage, and the count of events written.

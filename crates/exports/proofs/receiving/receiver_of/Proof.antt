@@ -1,7 +1,7 @@
 -- `exports::receiving::receiver_of` meets its contract.
 -- Assumes nothing.
 use mathlib.Core.Path.{ap}
-use Rattle.receiver.specs.declared.Stage.{Stage}
+use Rattle.control.specs.declared.Stage.{Stage}
 use Rattle.exports.proofs.receiving.receiver_of.Statement.{statement}
 use Rattle.exports.proofs.receiving.receiver_of.Tie as tie
 

@@ -4,8 +4,8 @@ use mathlib.Core.Path.{refl, ap}
 use native.Mathlib.Omega.{arith}
 use borrow.Author.Needs.{needs}
 use lib.ListN.{length}
-use Rattle.receiver.specs.declared.Event.{Event}
-use Rattle.receiver.specs.Step.{numbers}
+use Rattle.control.specs.declared.Event.{Event}
+use Rattle.control.specs.Rules.{numbers}
 use Rattle.receiver.proofs.block.put.Statement.{statement}
 use Rattle.receiver.proofs.block.put.Tie as tie
 

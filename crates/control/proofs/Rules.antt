@@ -1,0 +1,100 @@
+-- The cases of the rules, each an equation under the tests that lead to it.
+-- Assumes nothing.
+use mathlib.Core.Path.{_≡_, refl}
+use mathlib.Core.Bool.{true, false, and-false, false≢true}
+use Prim.Native.Nat.{ℕ, _+_, _-_, _<_, _≤_}
+use native.Mathlib.Omega.{arith}
+use borrow.Author.Tests.{le-leb, lt-leb, eq-eqb, ne-eqb}
+use lib.Dec.{leb, eqb}
+use Rattle.integers.proofs.Tests.{cond-case}
+use Rattle.control.specs.declared.Decision.{Decision}
+use Rattle.control.specs.declared.Next.{Next}
+use Rattle.control.specs.declared.Stage.{Stage}
+use Rattle.control.specs.declared.Stage.the-variants.{Searching, Waiting}
+use Rattle.control.specs.Control.{Control, isStage}
+use Rattle.control.specs.Rules.{carrierLost, noStop, numbers, quiet, report, runAfter, gathered, taken, nextOf, isDue, goneOn, waitOver, controlAfter, reported}
+use Rattle.control.proofs.Ranges.{stage-slot}
+
+-- ---- the run
+
+pub run-full : (run : ℕ) → 32 ≤ run → runAfter run true ≡ 32
+run-full run h = omega arith
+
+-- ---- a slot is taken
+
+module _ (byte : ℕ) (d : Decision) where
+  module _ (slot : ℕ) (z : slot ≡ 0) where
+    pub start-found : d .good ≡ true → d .space ≡ true → taken slot byte d ≡ quiet (Waiting 32 1 0)
+    unfolding taken
+    start-found g s = simp (z, g, s)
+
+    pub start-weak : d .good ≡ false → taken slot byte d ≡ quiet Searching
+    unfolding taken
+    start-weak g = simp (z, g)
+
+    pub start-mark : d .good ≡ true → d .space ≡ false → taken slot byte d ≡ quiet Searching
+    unfolding taken
+    start-mark g s = simp (z, g, s)
+
+  module _ (slot : ℕ) (nz : slot ≡ 0 → ⊥) where
+    pub lost : d .good ≡ false → taken slot byte d ≡ report carrierLost
+    unfolding taken
+    lost g = simp (ne-eqb slot 0 nz, g) (cond-case (λ (n : Next). n ≡ report carrierLost) (leb slot 8) _ _ refl refl)
+
+    pub data-bit : d .good ≡ true → slot ≤ 8 → taken slot byte d ≡ quiet (Waiting 32 (slot + 1) (gathered slot byte (d .space)))
+    unfolding taken
+    data-bit g h = simp (ne-eqb slot 0 nz, g, le-leb slot 8 h)
+
+    pub stop-space : d .good ≡ true → 8 < slot → d .space ≡ true → taken slot byte d ≡ report noStop
+    unfolding taken
+    stop-space g h s = simp (ne-eqb slot 0 nz, g, lt-leb slot 8 h, s)
+
+    pub stop-mark : d .good ≡ true → 8 < slot → d .space ≡ false → taken slot byte d ≡ report byte
+    unfolding taken
+    stop-mark g h s = simp (ne-eqb slot 0 nz, g, lt-leb slot 8 h, s)
+
+-- ---- the stage after a sample
+
+module _ (run : ℕ) (d : Decision) where
+  pub search-found : run ≡ 32 → d .space ≡ true → nextOf Searching run d ≡ quiet (Waiting 16 0 0)
+  unfolding nextOf
+  search-found e s = simp (eq-eqb run 32 e, s)
+
+  pub search-short : (run ≡ 32 → ⊥) → nextOf Searching run d ≡ quiet Searching
+  unfolding nextOf
+  search-short e = simp (ne-eqb run 32 e)
+
+  pub search-mark : d .space ≡ false → nextOf Searching run d ≡ quiet Searching
+  unfolding nextOf
+  search-mark s = simp (s, and-false (eqb run 32))
+
+  module _ (wait slot byte : ℕ) where
+    pub wait-more : 1 < wait → nextOf (Waiting wait slot byte) run d ≡ quiet (Waiting (wait - 1) slot byte)
+    unfolding nextOf
+    wait-more h = simp (ne-eqb (wait - 1) 0 (λ e. omega arith))
+
+    pub wait-taken : wait ≡ 1 → nextOf (Waiting wait slot byte) run d ≡ taken slot byte d
+    unfolding nextOf
+    wait-taken e = rw e
+
+  -- in the parts that the code has
+  pub gone-on : (stage : Stage) → isDue stage ≡ false → nextOf stage run d ≡ quiet (goneOn stage run d)
+  unfolding nextOf
+  gone-on Searching e = refl
+  gone-on (Waiting wait slot byte) e = rw e
+
+  pub wait-over : (stage : Stage) → isDue stage ≡ true → isStage stage ≡ true → nextOf stage run d ≡ waitOver stage d
+  unfolding nextOf
+  wait-over Searching e h = absurd (false≢true e)
+  wait-over (Waiting wait slot byte) e h = rw (e, stage-slot wait slot byte h)
+
+-- ---- run and stage after a decision, and its events
+
+module _ (c : Control) (d : Decision) (run : ℕ) (n : Next) (er : run ≡ runAfter (c .run) (d .good)) (en : n ≡ nextOf (c .stage) run d) where
+  pub control-after : controlAfter c d ≡ record { run = run; stage = n .stage }
+  unfolding controlAfter
+  control-after = rw (en, er)
+
+  pub events-reported : reported c d ≡ numbers (n .event)
+  unfolding reported
+  events-reported = rw (en, er)

@@ -1,0 +1,102 @@
+// A bit slot: its ranges, and what is done when it is taken.
+ghost use mathlib.Core.Path.{_≡_};
+ghost use mathlib.Core.Bool.{true};
+ghost use Prim.Native.Nat.{_-_, _^_, _≤_, _<_};
+ghost use Rattle.control.specs.declared.Stage.the-variants.{Searching, Waiting};
+ghost use Rattle.control.specs.Control.{isWait, isSlot};
+ghost use Rattle.control.specs.Rules.{quiet, report, gathered, taken};
+use super::Decision;
+use super::Event;
+use super::Next;
+use super::Stage;
+
+// The slot that was waited for is taken.
+pub(crate) fn take_slot(slot: u8, byte: u8, d: Decision) -> Next
+    requires { ⌜ isSlot slot byte ≡ true ⌝ }
+    ensures { λ r. ⌜ r ≡ taken slot byte d ⌝ }
+{
+    if slot == 0 {
+        if d.good && d.space {
+            waiting(1, 0)
+        } else {
+            searching()
+        }
+    } else if !d.good {
+        reporting(257)
+    } else if slot <= 8 {
+        waiting(slot + 1, gather(slot, byte, d.space))
+    } else if d.space {
+        reporting(256)
+    } else {
+        reporting(byte as u16)
+    }
+}
+
+// The byte with the bit of a data slot, the least significant first.
+fn gather(slot: u8, byte: u8, space: bool) -> u8
+    requires { ⌜ (1 ≤ slot) × (slot ≤ 8) × (byte < 2 ^ (slot - 1)) ⌝ }
+    ensures { λ r. ⌜ r ≡ gathered slot byte space ⌝ }
+{
+    if space { byte } else { byte + weight(slot) }
+}
+
+// The weight of a data slot's bit.
+fn weight(slot: u8) -> u8
+    requires { ⌜ (1 ≤ slot) × (slot ≤ 8) ⌝ }
+    ensures { λ r. ⌜ r ≡ 2 ^ (slot - 1) ⌝ }
+{
+    1u8 << (slot - 1)
+}
+
+// The next slot is a bit, 32 samples, away.
+fn waiting(slot: u8, byte: u8) -> Next
+    ensures { λ r. ⌜ r ≡ quiet (Waiting 32 slot byte) ⌝ }
+{
+    Next {
+        stage: Stage::Waiting {
+            wait: 32,
+            slot,
+            byte,
+        },
+        event: Event::Nothing,
+    }
+}
+
+pub(crate) fn searching() -> Next
+    ensures { λ r. ⌜ r ≡ quiet Searching ⌝ }
+{
+    Next {
+        stage: Stage::Searching,
+        event: Event::Nothing,
+    }
+}
+
+fn reporting(number: u16) -> Next
+    ensures { λ r. ⌜ r ≡ report number ⌝ }
+{
+    Next {
+        stage: Stage::Searching,
+        event: Event::Number(number),
+    }
+}
+
+pub(crate) fn is_wait(wait: u8, slot: u8) -> bool
+    ensures { λ r. ⌜ r ≡ isWait wait slot ⌝ }
+{
+    let most = if slot == 0 { 16 } else { 32 };
+    1 <= wait && wait <= most
+}
+
+pub(crate) fn is_slot(slot: u8, byte: u8) -> bool
+    ensures { λ r. ⌜ r ≡ isSlot slot byte ⌝ }
+{
+    if 9 < slot {
+        false
+    } else if slot < 2 {
+        byte == 0
+    } else if slot < 9 {
+        byte < weight(slot)
+    } else {
+        true
+    }
+}
