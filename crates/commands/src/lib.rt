@@ -31,7 +31,7 @@ pub fn demodulate(text: &[u8], out: &mut [u8; 4806]) -> usize
     ensures front { λ r. ⌜ Front r (now (out .exit)) ⌝ }
 {
     let mut samples = [0i16; 16384];
-    let sheet = sheet::read(text, &mut samples);
+    let sheet = sheet_reader::read(text, &mut samples);
     let answer = sheet.answer;
     if answer.number != 0 {
         return lines::put_refusal(out, answer.number);

@@ -1,15 +1,15 @@
--- What is known when the sheet calls' numbers are none, and the two outcomes of each call.
+-- What is known when the sheet calls' numbers are none, and what the answer of each call tells.
 -- Assumes nothing.
 use mathlib.Core.Path.{_≡_, refl}
 use mathlib.Core.Bool.{Bool, true, false, cond, not}
 use mathlib.Core.List.{List}
 use Prim.Native.Nat.{ℕ, _≤_}
 use native.Mathlib.Omega.{arith}
-use borrow.Author.Tests.{ne-eqb, le-ltb, ltb-false, not-false}
+use borrow.Author.Tests.{le-ltb, ltb-false, not-false}
 use lib.Dec.{T, ltb, ltb→lt}
 use lib.IntN.{ℤ}
 use lib.ListN.{length}
-use Rattle.calls.specs.Outcome.{Outcome, refused, accepted}
+use Rattle.calls.specs.Outcome.{Outcome}
 use Rattle.calls.proofs.Answers.{Answered, answered}
 use Rattle.tones.specs.Bands.{isBand}
 use Rattle.tones.specs.Samples.{areSamples}
@@ -58,14 +58,6 @@ module _ (text : List ℕ) (room : ℕ) where
       }
 
 module _ (text : List ℕ) (lent : List ℤ) where
-  pub read-refused : (k : ℕ) → k ≡ readNumber text (length lent) → (k ≡ 0 → ⊥) → refused k 0 lent ≡ readOf text lent
-  unfolding readOf
-  read-refused k e h = rw (← e, ne-eqb k 0 h)
-
-  pub read-accepted : readNumber text (length lent) ≡ 0 → accepted (bandIn text) (samplesOf text) lent ≡ readOf text lent
-  unfolding readOf
-  read-accepted e = rw e
-
   -- what the answer tells
   pub read-answer : (o : Outcome ℕ ℤ) → o ≡ readOf text lent → Answered (bandIn text) (samplesOf text) lent (readNumber text (length lent)) o
   unfolding readOf
@@ -99,14 +91,6 @@ module _ (band : ℕ) (samples : List ℤ) (room : ℕ) where
       }
 
 module _ (band : ℕ) (samples : List ℤ) (lent : List ℕ) where
-  pub write-refused : (k : ℕ) → k ≡ writeNumber band samples (length lent) → (k ≡ 0 → ⊥) → refused k tt lent ≡ writeOf band samples lent
-  unfolding writeOf
-  write-refused k e h = rw (← e, ne-eqb k 0 h)
-
-  pub write-accepted : writeNumber band samples (length lent) ≡ 0 → accepted tt (sheetOf band samples) lent ≡ writeOf band samples lent
-  unfolding writeOf
-  write-accepted e = rw e
-
   pub write-answer : (o : Outcome Unit ℕ) → o ≡ writeOf band samples lent → Answered tt (sheetOf band samples) lent (writeNumber band samples (length lent)) o
   unfolding writeOf
   write-answer o e = answered tt (sheetOf band samples) lent (writeNumber band samples (length lent)) tt o e

@@ -1,7 +1,7 @@
 -- The head of a sheet; and reading is the inverse of writing: what was written is read, and no other text is taken.
 -- Assumes nothing.
 use mathlib.Core.Path.{_≡_, sym, ap, _∙_}
-use mathlib.Core.Bool.{true, false}
+use mathlib.Core.Bool.{true}
 use mathlib.Core.List.{List, _++_}
 use mathlib.Mathlib.Data.Bool.Basic.{and-elim-left, and-elim-right, and-intro}
 use Prim.Native.Nat.{ℕ, _+_, _<_, _≤_}
@@ -12,7 +12,7 @@ use Rattle.integers.specs.All.{All}
 use Rattle.text.specs.Numbers.{isDigit}
 use Rattle.text.specs.Bytes.{startsWith}
 use Rattle.text.proofs.Numbers.{digit-low, digit-high, is-digit}
-use Rattle.text.proofs.Bytes.{starts-cut, starts-append, starts-long, starts-short}
+use Rattle.text.proofs.Bytes.{starts-cut, starts-append, starts-long}
 use Rattle.sheet.specs.Text.{linesOf, headOf, sheetOf}
 use Rattle.sheet.specs.Parse.{lineAfter, isStart, isHeaded, isSheet, bandIn, samplesOf}
 use Rattle.sheet.specs.Inverse.{ReadsAs, IsSheetOf, Inverse}
@@ -42,10 +42,6 @@ headed t h =
       digit = omega (arith, digit-high x d);
       cut = starts-cut (headOf x) t front ∙ ap (λ (y : ℕ). headOf y ++ drop 14 t) e;
     }
-
-pub headless : (t : List ℕ) → length t < 14 → false ≡ isHeaded t
-unfolding isHeaded headOf
-headless t h = rw (starts-short (headOf (getD t 5 0)) t h)
 
 pub sheet-headed : (t : List ℕ) → isSheet t ≡ true → Headed t
 unfolding isSheet

@@ -71,7 +71,7 @@ bandIn text = getD text 5 0 - 48
 abbrev pub samplesOf : List ℕ → List ℤ
 samplesOf text = samplesIn Start (drop 14 text)
 
--- ---- what the code asks and keeps
+-- ---- what the code of `sheet_reader` asks and keeps
 
 -- a number of at most four digits
 abbrev pub Small : Line → Type 0

@@ -45,7 +45,7 @@ fn read_front(name: &[u8], n: usize, places: &mut [i16]) {
     let text = zeros();
     // Always so here; it spares a proof.
     if n <= 65537 {
-        let r = sheet::read(&text[..n], places);
+        let r = sheet_reader::read(&text[..n], places);
         io::write_all(STDOUT_FILENO, name);
         show_answer(r.answer);
         io::write_all(STDOUT_FILENO, b"\n");
@@ -93,7 +93,7 @@ fn read_lines(lines: &[u8]) {
 // A text as it is, and what comes of reading it.
 fn read(text: &[u8]) {
     let mut places = [7777i16; 4];
-    let r = sheet::read(text, &mut places);
+    let r = sheet_reader::read(text, &mut places);
     io::write_all(STDOUT_FILENO, b"read\n");
     io::write_all(STDOUT_FILENO, text);
     io::write_all(STDOUT_FILENO, b"gives");

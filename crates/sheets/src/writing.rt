@@ -31,7 +31,7 @@ pub(crate) fn lengths() {
     write_long(b"65536 bytes", 7);
     write_long(b"65537 bytes", 10);
     let mut out = [46u8; 65537];
-    let most = sheet::write(2, &[7i16; 16384], &mut out);
+    let most = sheet_writer::write(2, &[7i16; 16384], &mut out);
     show_line(b"16384 samples 7", most);
 }
 
@@ -40,7 +40,7 @@ fn write_long(name: &[u8], last: i16) {
     let mut samples = [-1000i16; 10921];
     samples[10920] = last;
     let mut out = [46u8; 65537];
-    let answer = sheet::write(1, &samples, &mut out);
+    let answer = sheet_writer::write(1, &samples, &mut out);
     show_line(name, answer);
 }
 
@@ -53,7 +53,7 @@ fn show_line(name: &[u8], answer: calls::Answer) {
 // The whole buffer is printed, from the line behind the answer on.
 fn write(name: &[u8], band: u8, samples: &[i16]) {
     let mut out = [46u8; 32];
-    let answer = sheet::write(band, samples, &mut out);
+    let answer = sheet_writer::write(band, samples, &mut out);
     show_line(name, answer);
     io::write_all(STDOUT_FILENO, &out);
     io::write_all(STDOUT_FILENO, b"\n");
