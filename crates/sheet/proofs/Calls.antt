@@ -1,4 +1,4 @@
--- What is known when the sheet calls' numbers are none, and what the answer of each call tells.
+-- What is known when the sheet calls' numbers are none, and what the answer of a reading tells.
 -- Assumes nothing.
 use mathlib.Core.Path.{_≡_, refl}
 use mathlib.Core.Bool.{Bool, true, false, cond, not}
@@ -15,7 +15,7 @@ use Rattle.tones.specs.Bands.{isBand}
 use Rattle.tones.specs.Samples.{areSamples}
 use Rattle.sheet.specs.Text.{sheetOf}
 use Rattle.sheet.specs.Parse.{isSheet, bandIn, samplesOf}
-use Rattle.sheet.specs.Calls.{samplesNumber, readNumber, readOf, writeNumber, writeOf}
+use Rattle.sheet.specs.Calls.{samplesNumber, readNumber, readOf, writeNumber}
 
 -- a number is given by a test, or else another: if none is, the test failed and the other is none
 none-given : (b : Bool) (n m : ℕ) → T (ltb 0 n) → cond b n m ≡ 0 → (b ≡ false) × (m ≡ 0)
@@ -89,8 +89,3 @@ module _ (band : ℕ) (samples : List ℤ) (room : ℕ) where
         short = ltb-false 65536 (length (sheetOf band samples)) (short .0);
         places = ltb-false room (length (sheetOf band samples)) (places .0);
       }
-
-module _ (band : ℕ) (samples : List ℤ) (lent : List ℕ) where
-  pub write-answer : (o : Outcome Unit ℕ) → o ≡ writeOf band samples lent → Answered tt (sheetOf band samples) lent (writeNumber band samples (length lent)) o
-  unfolding writeOf
-  write-answer o e = answered tt (sheetOf band samples) lent (writeNumber band samples (length lent)) tt o e

@@ -2,7 +2,6 @@
 // `sheet_reader` reads sheets, and `sheet_writer` writes them.
 ghost use mathlib.Core.Path.{_≡_};
 ghost use Rattle.sheet.specs.Text.{headOf};
-use calls::Answer;
 
 // Where the reading stands in a sample's line: before its first byte, behind a minus, behind the line's only 0, in a number,
 // or behind something that no line has.
@@ -20,12 +19,6 @@ pub struct Seen {
     pub line: Line,
     pub count: usize,
     pub sound: bool,
-}
-
-// What a reading answers: the band, 0 for a refusal, and the number with the count of samples.
-pub struct Reading {
-    pub band: u8,
-    pub answer: Answer,
 }
 
 // The three lines above the samples.

@@ -7,7 +7,12 @@ mod parse;
 mod reader;
 
 use calls::Answer;
-use sheet::Reading;
+
+// What a reading answers: the band, 0 for a refusal, and the number with the count of samples.
+pub struct Reading {
+    pub band: u8,
+    pub answer: Answer,
+}
 
 // Reads a sheet. Its samples go to the buffer's front.
 pub fn read(text: &[u8], out: &mut [i16]) -> Reading
