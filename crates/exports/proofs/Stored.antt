@@ -22,8 +22,8 @@ stage-stored (Waiting wait slot byte) = refl
 pub state-stored : (s : Receiver) → receiverOf (numbersOf s) ≡ s
 state-stored s i = record { band = s .band; window = s .window; run = s .run; stage = stage-stored (s .stage) i }
 
--- An entry is called with the state of the numbers n and gives r; what is kept of r is the call on n.
-module _ (n : StateNumbers) (xs : List ℤ) (lent : List ℕ) {s : Receiver} {r : Reading} {now : List ℕ} {a : Answer} {m : StateNumbers} where
+-- An entry is called with the state of the numbers n and gives r; what is kept of r, the numbers m among it, is the call on n.
+module _ (n m : StateNumbers) (xs : List ℤ) (lent : List ℕ) {s : Receiver} {r : Reading} {now : List ℕ} {a : Answer} where
   pub stored : s ≡ receiverOf n → outcome (r .answer) (r .receiver) now ≡ blockOf s xs lent
       → (a ≡ r .answer) × (m ≡ nextNumbers (r .answer .number) (r .receiver) n) → outcome a m now ≡ blockNumbers n xs lent
   stored made read kept =

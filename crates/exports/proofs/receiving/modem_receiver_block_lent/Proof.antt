@@ -1,6 +1,7 @@
 -- `exports::receiving::modem_receiver_block_lent` meets its contract: what is stored is what the second entry answered.
 -- Assumes nothing.
 use borrow.Author.Needs.{needs}
+use Rattle.exports.specs.Receiving.{stateNumbers}
 use Rattle.exports.proofs.Stored.{stored}
 use Rattle.exports.proofs.receiving.modem_receiver_block_lent.Statement.{statement}
 use Rattle.exports.proofs.receiving.modem_receiver_block_lent.Tie as tie
@@ -19,9 +20,19 @@ same-length c = search needs
 
 returns : tie.Need-returns
 returns c =
-    let made = c .before .before .before .before .before .before .before .before .before .before .receiver-of in
+    let kept = c .store-reading in
     let read = c .before .before .before .before .before .before .before .before .block-by-value in
-    stored _ _ _ (made .ensures) (read .ensures) (c .store-reading .ensures)
+    let made = c .before .before .before .before .before .before .before .before .before .before .receiver-of in
+    let given = c .before .before .before .before .before .before .before .before .before .before .before .before .before .before .before .before .args in
+    let left = kept .last .1 in
+    stored
+    (stateNumbers (given .band .now) (given .window .now) (given .run .now) (given .stage .now))
+    (stateNumbers (left .0) (left .1 .0) (left .1 .1 .0) (left .1 .1 .1 .0))
+    _
+    _
+    (made .ensures)
+    (read .ensures)
+    (kept .ensures)
 
 pub modem-receiver-block-lent-spec : {M : Type 1} → statement M
 modem-receiver-block-lent-spec = tie.close (tie.spec receiver-of-requires block-by-value-requires store-reading-requires same-length returns)
