@@ -43,7 +43,7 @@ pub(crate) fn put_characters(out: &mut [i16], tones: Tones, phase: u16, bytes: &
     p
 }
 
-// A character's ten bits. Each data bit halves the byte once more, as the rule does.
+// A character's ten bits: a start bit, the byte's bits from the least significant on, and a stop bit.
 fn char_bits(byte: u8) -> [u8; 10]
     ensures { λ r. ⌜ r ≡ charBits byte ⌝ }
 {
@@ -51,12 +51,12 @@ fn char_bits(byte: u8) -> [u8; 10]
         0,
         byte % 2,
         byte / 2 % 2,
-        byte / 2 / 2 % 2,
-        byte / 2 / 2 / 2 % 2,
-        byte / 2 / 2 / 2 / 2 % 2,
-        byte / 2 / 2 / 2 / 2 / 2 % 2,
-        byte / 2 / 2 / 2 / 2 / 2 / 2 % 2,
-        byte / 2 / 2 / 2 / 2 / 2 / 2 / 2 % 2,
+        byte / 4 % 2,
+        byte / 8 % 2,
+        byte / 16 % 2,
+        byte / 32 % 2,
+        byte / 64 % 2,
+        byte / 128 % 2,
         1,
     ]
 }
