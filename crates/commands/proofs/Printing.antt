@@ -70,26 +70,10 @@ module _ (number : ℕ) where
       ∙ sets-append (sets lent 0 refusedLine) 8 (decimal number) (10 ∷ []))
       ∙ sets-front (refusalLines number) lent (omega (arith, refusal-length, length-decimal 2 number h))
 
--- the fields of a character, its value in the middle
-module _ (event : ℕ) (h : event < 256) where
-  abbrev kind : List ℕ
-  kind = 32 ∷ 99 ∷ 104 ∷ 97 ∷ 114 ∷ 32 ∷ []
-
-  char-fields : fieldsOf event ≡ kind ++ (hexadecimal event ++ (10 ∷ []))
-  char-fields = rw (lt-ltb event 256 h)
-
-  pub char-length : 9 ≡ length (fieldsOf event)
-  unfolding hexadecimal
-  char-length = sym (ap length char-fields)
-
-  pub char-parts : (lent : List ℕ) (at : ℕ) → sets (sets (sets lent at kind) (at + 6) (hexadecimal event)) (at + 8) (10 ∷ []) ≡ sets lent at (fieldsOf event)
-  char-parts lent at =
-      let e : at + 6 + length (hexadecimal event) ≡ at + 8 = omega (arith, length-hexadecimal event) in
-      sym
-      (ap (sets lent at) char-fields
-      ∙ sets-append lent at kind (hexadecimal event ++ (10 ∷ []))
-      ∙ sets-append (sets lent at kind) (at + 6) (hexadecimal event) (10 ∷ [])
-      ∙ ap (λ (n : ℕ). sets (sets (sets lent at kind) (at + 6) (hexadecimal event)) n (10 ∷ [])) e)
+-- the fields of a character
+pub char-length : (event : ℕ) → event < 256 → 9 ≡ length (fieldsOf event)
+unfolding hexadecimal
+char-length event h = rw (lt-ltb event 256 h)
 
 -- a place and its fields
 module _ (place event : ℕ) where

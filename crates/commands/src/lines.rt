@@ -52,10 +52,8 @@ fn put_fields(out: &mut [u8], at: usize, event: u16) -> usize
     ensures lent { λ r. ⌜ now (out .exit) ≡ sets (now (out .entry)) at (fieldsOf event) ⌝ }
 {
     if event < 256 {
-        let value = text::hexadecimal(event as u8);
-        text::put(out, at, b" char ");
-        text::put(out, at + 6, &value);
-        text::put(out, at + 8, b"\n");
+        let fields = char_fields(event as u8);
+        text::put(out, at, &fields);
         return at + 9;
     }
     if event == 256 {
@@ -64,4 +62,14 @@ fn put_fields(out: &mut [u8], at: usize, event: u16) -> usize
     }
     text::put(out, at, b" lost --\n");
     at + 9
+}
+
+// The kind and value of a character.
+fn char_fields(byte: u8) -> [u8; 9]
+    ensures { λ r. ⌜ r ≡ fieldsOf byte ⌝ }
+{
+    let value = text::hexadecimal(byte);
+    let high = value[0];
+    let low = value[1];
+    [b' ', b'c', b'h', b'a', b'r', b' ', high, low, b'\n']
 }
