@@ -8,10 +8,10 @@ use Rattle.sheets.proofs.reading.read_each.Statement.{statement}
 use Rattle.sheets.proofs.reading.read_each.Tie as tie
 
 abbrev Inv-loop : tie.InvT-loop
-Inv-loop lines from₀ i₀ from i = (from ≤ i) × (i ≤ length lines)
+Inv-loop head lines from₀ i₀ from i = (from ≤ i) × (i ≤ length lines)
 
 abbrev μ-loop : tie.MeasureT-loop
-μ-loop lines from₀ i₀ from i = length lines - i
+μ-loop head lines from₀ i₀ from i = length lines - i
 
 loop-holds : tie.Need-loop-holds Inv-loop μ-loop
 loop-holds c = (omega arith, omega arith)

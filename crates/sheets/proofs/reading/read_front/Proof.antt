@@ -1,4 +1,4 @@
--- `sheets::reading::read_front` is safe: the part that is read lies within the text.
+-- `sheets::reading::read_front` is safe: the parts that are read and lent lie within the text and the places.
 -- Assumes nothing.
 use mathlib.Core.Path.{sym}
 use borrow.Author.Needs.{needs}
@@ -15,6 +15,12 @@ array-share-prefix-text c = search needs
 slice-aggregate-read : tie.Need-slice-aggregate-read
 slice-aggregate-read c = sym (length-take-le _ _ (array-share-prefix-text (c .before)))
 
+array-borrow-prefix-places : tie.Need-array-borrow-prefix-places
+array-borrow-prefix-places c = search needs
+
+slice-aggregate-read-2 : tie.Need-slice-aggregate-read-2
+slice-aggregate-read-2 c = sym (length-take-le _ _ (array-borrow-prefix-places (c .before)))
+
 read-requires : tie.Need-read-requires
 read-requires c κs = tt
 
@@ -30,9 +36,6 @@ slice-aggregate-write-all c = search needs
 write-all-requires-2 : tie.Need-write-all-requires-2
 write-all-requires-2 c κs = tt
 
-same-length : tie.Need-same-length
-same-length c = search needs
-
 returns : tie.Need-returns
 returns c = tt
 
@@ -46,11 +49,12 @@ read-front-spec =
     zeros-requires
     array-share-prefix-text
     slice-aggregate-read
+    array-borrow-prefix-places
+    slice-aggregate-read-2
     read-requires
     write-all-requires
     show-answer-requires
     slice-aggregate-write-all
     write-all-requires-2
-    same-length
     returns
     returns-2)
