@@ -31,17 +31,19 @@ fn in_band(band: u8, message: &[u8]) {
         space: own.mark,
         mark: own.space,
     };
-    let space = signs(both(own.space), 0, message);
-    in_blocks(band, message, b"tone of space", &space);
-    let mark = signs(both(own.mark), 0, message);
-    in_blocks(band, message, b"tone of mark", &mark);
-    let wrong = signs(exchanged, 0, message);
-    in_blocks(band, message, b"tone of the wrong bit", &wrong);
+    with_signs(band, message, b"tone of space", both(own.space), 0);
+    with_signs(band, message, b"tone of mark", both(own.mark), 0);
+    with_signs(band, message, b"tone of the wrong bit", exchanged, 0);
     // Half a cycle to a sample, from the top of the sine on.
-    let turns = signs(both(960), 480, message);
-    in_blocks(band, message, b"plus and minus in turn", &turns);
+    with_signs(band, message, b"plus and minus in turn", both(960), 480);
     let random = random_signs();
     in_blocks(band, message, b"random signs", &random);
+}
+
+// The signs of the message, sent with these tones from this phase on.
+fn with_signs(band: u8, message: &[u8], name: &[u8], tones: Tones, phase: u16) {
+    let numbers = signs(tones, phase, message);
+    in_blocks(band, message, name, &numbers);
 }
 
 // One tone for both bits.

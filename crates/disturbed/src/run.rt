@@ -10,13 +10,9 @@ pub(crate) fn run(band: u8, message: &[u8], name: &[u8], disturbance: &[i16], si
     let answer = loopback::loopback(band, message, disturbance, size, &mut samples, &mut events);
     print_call(band, name, size);
     if answer.number == 0 {
-        io::write_all(STDOUT_FILENO, b"sum ");
-        print_signed(weighed_sum(&samples));
-        io::write_all(STDOUT_FILENO, b", read ");
-        print_front(&events, answer.count);
+        print_read(&samples, &events, answer.count);
     } else {
-        io::write_all(STDOUT_FILENO, b"refused ");
-        io::print_decimal(STDOUT_FILENO, answer.number as u64);
+        print_refused(answer.number);
     }
     io::write_all(STDOUT_FILENO, b"\n");
 }
@@ -29,6 +25,18 @@ fn print_call(band: u8, name: &[u8], size: usize) {
     io::write_all(STDOUT_FILENO, b", blocks of ");
     io::print_decimal(STDOUT_FILENO, size as u64);
     io::write_all(STDOUT_FILENO, b": ");
+}
+
+fn print_read(samples: &[i16; LONGEST], events: &[u16], count: usize) {
+    io::write_all(STDOUT_FILENO, b"sum ");
+    print_signed(weighed_sum(samples));
+    io::write_all(STDOUT_FILENO, b", read ");
+    print_front(events, count);
+}
+
+fn print_refused(number: u8) {
+    io::write_all(STDOUT_FILENO, b"refused ");
+    io::print_decimal(STDOUT_FILENO, number as u64);
 }
 
 // The events at the front.
