@@ -1,7 +1,7 @@
 /* Sends its first argument in band 1 and prints the events read back, a line for each; or the number of a refusal, with
- * status 1. From the repository's root, after `rt staticlib exports`:
+ * status 1. From the repository's root, after `rt staticlib sending` and `rt staticlib receiving`:
  *
- *     cc -std=c99 -o loopback c/loopback.c target/staticlib/libexports.a && ./loopback HELLO
+ *     cc -std=c99 -o loopback c/loopback.c target/staticlib/libsending.a target/staticlib/libreceiving.a && ./loopback HELLO
  */
 #include <stdio.h>
 #include <string.h>

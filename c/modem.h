@@ -1,4 +1,5 @@
-/* The modem's calls, from target/staticlib/libexports.a (`rt staticlib exports`).
+/* The modem's calls: the sine and the transmitter, from target/staticlib/libsending.a (`rt staticlib sending`), and the receiver,
+ * from target/staticlib/libreceiving.a (`rt staticlib receiving`).
  *
  * A state is the numbers of its fields, which a call is lent and leaves as the next state. A list is a pointer and a
  * length, and the places of one call must not overlap. Each call but the first two returns 0, or the number of a refusal

@@ -1,4 +1,4 @@
-//! Links the static library under test, which is built before this crate.
+//! Links the static libraries under test, which are built before this crate.
 
 use std::env;
 use std::path::Path;
@@ -6,13 +6,15 @@ use std::path::Path;
 fn main() {
     let here = env::var("CARGO_MANIFEST_DIR").expect("cargo names the package folder");
     let folder = Path::new(&here).join("../target/staticlib");
-    let archive = folder.join("libexports.a");
-    println!("cargo:rerun-if-changed={}", archive.display());
-    assert!(
-        archive.exists(),
-        "build the static library first: {} is missing",
-        archive.display()
-    );
     println!("cargo:rustc-link-search=native={}", folder.display());
-    println!("cargo:rustc-link-lib=static=exports");
+    for name in ["sending", "receiving"] {
+        let archive = folder.join(format!("lib{name}.a"));
+        println!("cargo:rerun-if-changed={}", archive.display());
+        assert!(
+            archive.exists(),
+            "build the static libraries first: {} is missing",
+            archive.display()
+        );
+        println!("cargo:rustc-link-lib=static={name}");
+    }
 }

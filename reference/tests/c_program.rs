@@ -23,7 +23,8 @@ fn program() -> &'static Path {
             ])
             .arg(&program)
             .arg(root.join("c/loopback.c"))
-            .arg(root.join("target/staticlib/libexports.a"))
+            .arg(root.join("target/staticlib/libsending.a"))
+            .arg(root.join("target/staticlib/libreceiving.a"))
             .status();
         assert!(compiled.expect("cc is on the PATH").success());
         program

@@ -15,6 +15,10 @@ pub record Outcome (S A : Type 0) : Type 0 where
   pub state : S
   pub lent : List A
 
+-- what a call answers, where the two numbers are given apart
+abbrev pub answer : ℕ → ℕ → Answer
+answer number count = record { number = number; count = count }
+
 module _ {S A : Type 0} where
   -- refused with a number: count 0, the state as handed, no lent place changed
   abbrev pub refused : ℕ → S → List A → Outcome S A

@@ -1,0 +1,20 @@
+-- `receiving::stage_numbers` meets its contract.
+-- Assumes nothing.
+use borrow.Author.Needs.{needs}
+use Rattle.receiving.proofs.stage_numbers.Statement.{statement}
+use Rattle.receiving.proofs.stage_numbers.Tie as tie
+
+enum-told : tie.Need-enum-told
+enum-told c = search needs
+
+enum-known-stage : tie.Need-enum-known-stage
+enum-known-stage c = search needs
+
+returns : tie.Need-returns
+returns c = rw (c .enum-told .given .1)
+
+returns-2 : tie.Need-returns-2
+returns-2 c = rw (c .before .stage .given .1)
+
+pub stage-numbers-spec : {M : Type 1} → statement M
+stage-numbers-spec = tie.close (tie.spec enum-told enum-known-stage returns returns-2)
