@@ -1,9 +1,7 @@
-//! The output that the program `sheets` is held to, from the reference's reader,
-//! writer and programs.
+//! The output that the program `sheets` is held to, from the reference's reader
+//! and writer.
 
 use crate::common::process::{output_file, printed};
-use crate::common::sines;
-use reference::programs::{demodulate, modulate};
 use reference::sheet::{self, WriteAnswer};
 
 const LINES: [&[u8]; 8] = [
@@ -121,42 +119,9 @@ fn writings() -> Vec<u8> {
     .concat()
 }
 
-fn modulated(input: &[u8]) -> Vec<u8> {
-    [b"modulate prints\n", &modulate(sines(), input)[..]].concat()
-}
-
-fn demodulated(text: &[u8]) -> Vec<u8> {
-    [b"demodulate prints\n", &demodulate(sines(), text)[..]].concat()
-}
-
-fn read_back(input: &[u8]) -> Vec<u8> {
-    demodulated(&modulate(sines(), input))
-}
-
-fn programs() -> Vec<u8> {
-    [
-        modulated(b""),
-        modulated(b"A"),
-        modulated(b"9A"),
-        modulated(b"1"),
-        modulated(&[b'1'; 39]),
-        modulated(&[b'2'; 52]),
-        modulated(&[b'1'; 102]),
-        demodulated(b""),
-        demodulated(b"band\n2\nsample\n"),
-        demodulated(b"band\n1\nsample\n8192\n"),
-        demodulated(b"band\n1\nsample\n+1\n"),
-        read_back(b"1A"),
-        read_back(b"2\0\n\xff"),
-        read_back(&[b'1'; 38]),
-        read_back(&[b'1'; 39]),
-    ]
-    .concat()
-}
-
 #[test]
 fn the_output_of_sheets() {
-    let expected = [readings(), writings(), programs()].concat();
+    let expected = [readings(), writings()].concat();
     assert!(output_file("sheets") == expected, "the file of sheets");
     assert!(printed("sheets", b"") == expected, "sheets");
 }

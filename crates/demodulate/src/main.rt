@@ -8,7 +8,7 @@ fn main() {
     let mut text = [0u8; 65537];
     let n = io::read_full(STDIN_FILENO, &mut text);
     let mut out = [0u8; 4806];
-    let len = commands::demodulate(&text[..n], &mut out);
+    let len = demodulator::demodulate(&text[..n], &mut out);
     // A program has no exit status to tell it by.
     if !io::write_all(STDOUT_FILENO, &out[..len]) {
         io::write_all(

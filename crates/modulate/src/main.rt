@@ -8,7 +8,7 @@ fn main() {
     let mut input = [0u8; 102];
     let n = io::read_full(STDIN_FILENO, &mut input);
     let mut out = [0u8; 65536];
-    let len = commands::modulate(&input[..n], &mut out);
+    let len = modulator::modulate(&input[..n], &mut out);
     // A program has no exit status to tell it by.
     if !io::write_all(STDOUT_FILENO, &out[..len]) {
         io::write_all(

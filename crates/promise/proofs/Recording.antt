@@ -19,9 +19,9 @@ use Rattle.tones.specs.declared.Tones.{Tones}
 use Rattle.transmitter.specs.Samples.{send, bitSteps, sendBits, idleBits, dataBits, charBits, charactersBits}
 use Rattle.transmitter.proofs.Laws.{bitAt, length-char}
 use Rattle.control.specs.declared.Stage.the-variants.{Searching}
-use Rattle.receiver.specs.Energy.{decisionOf}
 use Rattle.control.specs.Control.{Control}
 use Rattle.control.specs.Rules.{reports}
+use Rattle.receiver.specs.Energy.{decisionOf}
 use Rattle.receiver.proofs.Windows.{decisions-none}
 use Rattle.margin.specs.Windows.{phaseAfterBit, markThenSilence, Margins}
 use Rattle.promise.specs.Recordings.{AreBytes, silence}

@@ -17,8 +17,8 @@ use Rattle.tones.specs.Bands.{stepOf}
 use Rattle.transmitter.specs.Samples.{sendBits}
 use Rattle.transmitter.proofs.Laws.{send-bits-append, send-bit, phase-bit}
 use Rattle.control.specs.declared.Decision.{Decision}
-use Rattle.receiver.specs.Energy.{decisionOf}
 use Rattle.control.specs.Control.{Control}
+use Rattle.receiver.specs.Energy.{decisionOf}
 use Rattle.margin.specs.Windows.{phaseAfterBit, across, Margins}
 use Rattle.promise.specs.Recordings.{silence}
 use Rattle.promise.proofs.Steps.{reads, as-read, Moves}

@@ -7,11 +7,11 @@ use Prim.Native.Nat.{ℕ}
 use lib.IntN.{ℤ}
 use Rattle.calls.specs.declared.Answer.{Answer}
 use Rattle.calls.specs.Outcome.{Outcome, outcome}
+use Rattle.control.specs.declared.Stage.{Stage}
+use Rattle.control.specs.declared.Stage.the-variants.{Searching, Waiting}
 use Rattle.receiver.specs.declared.Receiver.{Receiver}
 use Rattle.receiver.specs.declared.Reading.{Reading}
 use Rattle.receiver.specs.Calls.{blockOf}
-use Rattle.control.specs.declared.Stage.{Stage}
-use Rattle.control.specs.declared.Stage.the-variants.{Searching, Waiting}
 use Rattle.receiving.specs.Numbers.{StateNumbers, stageNumbers, stageOf, numbersOf, receiverOf, nextNumbers, blockNumbers}
 
 -- what one call stores, the next one takes for the same state

@@ -9,9 +9,9 @@ use native.Mathlib.Omega.{arith}
 use lib.IntN.{ℤ, natAbs}
 use lib.ListN.{length, getD, drop}
 use Rattle.integers.specs.All.{All}
-use Rattle.text.specs.Numbers.{isDigit}
+use Rattle.digits.specs.Numbers.{isDigit}
+use Rattle.digits.proofs.Numbers.{digit-low, digit-high, is-digit}
 use Rattle.text.specs.Bytes.{startsWith}
-use Rattle.text.proofs.Numbers.{digit-low, digit-high, is-digit}
 use Rattle.text.proofs.Bytes.{starts-cut, starts-append, starts-long}
 use Rattle.sheet.specs.Text.{linesOf, headOf, sheetOf}
 use Rattle.sheet.specs.Parse.{lineAfter, isStart, isHeaded, isSheet, bandIn, samplesOf}

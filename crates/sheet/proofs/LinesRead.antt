@@ -13,8 +13,8 @@ use lib.IntN.{ℤ, pos, negsuc, natAbs}
 use Rattle.integers.specs.All.{All, none, more}
 use Rattle.calls.specs.Runs as runs
 use Rattle.calls.proofs.Runs.{RunLaws, run-laws}
-use Rattle.text.specs.Numbers.{isDigit, decimal}
-use Rattle.text.proofs.Numbers.{is-digit, decimal-small, decimal-digit}
+use Rattle.digits.specs.Numbers.{isDigit, decimal}
+use Rattle.digits.proofs.Numbers.{is-digit, decimal-small, decimal-digit}
 use Rattle.sheet.specs.Text.{lineOf, linesOf}
 use Rattle.sheet.specs.Parse.{next, sampleOf, sampleAt, lineAfter, samplesIn}
 use Rattle.sheet.specs.declared.Line.{Line}

@@ -13,8 +13,8 @@ use lib.IntN.{natAbs}
 use Rattle.integers.specs.All.{All, none, more}
 use Rattle.integers.proofs.Tests.{cond-split}
 use Rattle.calls.specs.Runs as runs
-use Rattle.text.specs.Numbers.{isDigit, decimal}
-use Rattle.text.proofs.Numbers.{digit-low, digit-high, decimal-small, decimal-digit}
+use Rattle.digits.specs.Numbers.{isDigit, decimal}
+use Rattle.digits.proofs.Numbers.{digit-low, digit-high, decimal-small, decimal-digit}
 use Rattle.sheet.specs.Text.{lineOf, linesOf}
 use Rattle.sheet.specs.Parse.{next, sampleOf, lineAfter, samplesIn, isStart}
 use Rattle.sheet.specs.declared.Line.{Line}

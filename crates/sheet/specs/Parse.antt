@@ -7,10 +7,10 @@ use lib.Dec.{ltb, eqb}
 use lib.IntN.{ℤ, pos, negℤ}
 use lib.ListN.{length, getD, drop}
 use Rattle.calls.specs.Runs.{after, gives}
-use Rattle.text.specs.Numbers.{isDigit}
+use Rattle.tones.specs.Samples.{areSamples}
+use Rattle.digits.specs.Numbers.{isDigit}
 use Rattle.text.specs.Bytes.{startsWith}
 use Rattle.sheet.specs.Text.{headOf}
-use Rattle.tones.specs.Samples.{areSamples}
 use Rattle.sheet.specs.declared.Line.{Line}
 use Rattle.sheet.specs.declared.Line.the-variants.{Start, Minus, Zero, Number, Bad}
 use Rattle.sheet.specs.declared.Seen.{Seen}

@@ -4,7 +4,7 @@ use mathlib.Core.List.{List, [], _∷_, _++_}
 use Prim.Native.Nat.{ℕ, suc, _+_}
 use lib.IntN.{ℤ, pos, negsuc}
 use Rattle.calls.specs.Lists.{each}
-use Rattle.text.specs.Numbers.{decimal}
+use Rattle.digits.specs.Numbers.{decimal}
 
 -- the line of one sample; 45 is the minus, 10 the line feed
 unfoldable pub lineOf : ℤ → List ℕ

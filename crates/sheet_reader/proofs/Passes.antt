@@ -16,10 +16,10 @@ use lib.Seq.{sets, drop-cons}
 use Rattle.integers.proofs.Tests.{cond-split, cond-case}
 use Rattle.calls.specs.Runs.{after, gives}
 use Rattle.calls.proofs.Filling.{Filling, filling-start, filling-more, filling-end}
-use Rattle.text.specs.Numbers.{isDigit}
-use Rattle.text.proofs.Numbers.{digit-high}
 use Rattle.tones.specs.Samples.{areBetween, areSamples}
 use Rattle.tones.proofs.Samples.{samples-append}
+use Rattle.digits.specs.Numbers.{isDigit}
+use Rattle.digits.proofs.Numbers.{digit-high}
 use Rattle.sheet.specs.Parse.{next, sampleOf, sampleAt, lineAfter, samplesIn, samplesOf, Small, seenNext, seenOf}
 use Rattle.sheet.specs.declared.Line.{Line}
 use Rattle.sheet.specs.declared.Line.the-variants.{Start, Minus, Zero, Number, Bad}

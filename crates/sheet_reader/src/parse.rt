@@ -28,7 +28,7 @@ fn first(byte: u8) -> Line
     if byte == 48 {
         return Line::Zero;
     }
-    if text::is_digit(byte) {
+    if digits::is_digit(byte) {
         return Line::Number {
             negative: false,
             size: (byte - 48) as u16,
@@ -43,7 +43,7 @@ fn after_minus(byte: u8) -> Line
     if byte == 48 {
         return Line::Bad; // -0
     }
-    if text::is_digit(byte) {
+    if digits::is_digit(byte) {
         return Line::Number {
             negative: true,
             size: (byte - 48) as u16,
@@ -65,7 +65,7 @@ fn in_number(negative: bool, size: u16, byte: u8) -> Line
     if byte == 10 {
         return Line::Start;
     }
-    if !text::is_digit(byte) {
+    if !digits::is_digit(byte) {
         return Line::Bad;
     }
     if size < 1000 {

@@ -58,7 +58,7 @@ fn is_headed(text: &[u8]) -> bool
     if !text::starts_with(text, &head) {
         return false;
     }
-    text::is_digit(digit)
+    digits::is_digit(digit)
 }
 
 // The first pass over the lines behind the first three: what a refusal depends on.

@@ -7,8 +7,8 @@ use native.Mathlib.Omega.{arith}
 use lib.IntN.{ℤ, pos, negsuc, natAbs}
 use lib.ListN.{length, length-append}
 use Rattle.integers.specs.Sums.{Bounded}
-use Rattle.text.specs.Numbers.{decimal}
-use Rattle.text.proofs.Numbers.{length-decimal}
+use Rattle.digits.specs.Numbers.{decimal}
+use Rattle.digits.proofs.Numbers.{length-decimal}
 use Rattle.sheet.specs.Text.{lineOf, linesOf, headOf, sheetOf}
 
 pub length-sheet : (band : ℕ) (zs : List ℤ) → length (sheetOf band zs) ≡ 14 + length (linesOf zs)

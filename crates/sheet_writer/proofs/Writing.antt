@@ -17,7 +17,7 @@ use mir.Syntax.{w16}
 use mir.Val.{SFits, toZ, ofZ}
 use Rattle.integers.proofs.Lists.{sets-append, sets-front}
 use Rattle.calls.proofs.Filling.{Filling, filling-more, filling-end}
-use Rattle.text.specs.Numbers.{decimal}
+use Rattle.digits.specs.Numbers.{decimal}
 use Rattle.sheet.specs.Text.{lineOf, linesOf, headOf, sheetOf}
 
 -- ---- one line

@@ -4,7 +4,7 @@ ghost use mathlib.Core.List.{[], _∷_, _++_};
 ghost use Prim.Native.Nat.{_+_, _≤_};
 ghost use lib.ListN.{length};
 ghost use lib.Seq.{sets};
-ghost use Rattle.text.specs.Numbers.{decimal};
+ghost use Rattle.digits.specs.Numbers.{decimal};
 ghost use Rattle.sheet.specs.Text.{lineOf, linesOf};
 ghost use Rattle.sheet.specs.Calls.{writeNumber};
 
@@ -52,7 +52,7 @@ fn put_line(out: &mut [u8], at: usize, sample: i16) -> usize
     ensures place { λ r. ⌜ r ≡ at + length (lineOf sample) ⌝ }
     ensures lent { λ r. ⌜ now (out .exit) ≡ sets (now (out .entry)) at (lineOf sample) ⌝ }
 {
-    let n = text::magnitude(sample);
+    let n = digits::magnitude(sample);
     if sample < 0 {
         text::put(out, at, b"-");
         return put_number(out, at + 1, n);
@@ -88,7 +88,7 @@ fn lines_len(samples: &[i16]) -> usize
 fn line_len(sample: i16) -> usize
     ensures { λ r. ⌜ r ≡ length (lineOf sample) ⌝ }
 {
-    let digits = text::decimal(text::magnitude(sample));
+    let digits = digits::decimal(digits::magnitude(sample));
     if sample < 0 {
         digits.len + 2
     } else {

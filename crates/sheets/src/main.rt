@@ -1,6 +1,5 @@
 // Reads and writes sheets of many kinds, and prints what each call answers and every place of its buffer afterwards. The places
-// hold 7777, or a dot, before a call, so that an untouched one shows. Then prints what the two programs' functions give.
-mod programs;
+// hold 7777, or a dot, before a call, so that an untouched one shows.
 mod reading;
 mod showing;
 mod writing;
@@ -14,6 +13,4 @@ fn main() {
     writing::order();
     writing::places();
     writing::lengths();
-    programs::modulate();
-    programs::demodulate();
 }

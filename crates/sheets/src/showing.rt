@@ -23,5 +23,5 @@ fn show_sample(sample: i16) {
     if sample < 0 {
         io::write_all(STDOUT_FILENO, b"-");
     }
-    io::print_decimal(STDOUT_FILENO, text::magnitude(sample) as u64);
+    io::print_decimal(STDOUT_FILENO, digits::magnitude(sample) as u64);
 }

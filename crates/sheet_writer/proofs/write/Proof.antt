@@ -13,8 +13,8 @@ use Rattle.calls.specs.Outcome.{refused, accepted}
 use Rattle.tones.proofs.Laws.{band-digit}
 use Rattle.sheet.specs.Text.{linesOf, headOf, sheetOf}
 use Rattle.sheet.specs.Calls.{writeNumber, writeOf}
-use Rattle.sheet_writer.proofs.Lengths.{length-sheet}
 use Rattle.sheet.proofs.Calls.{Writable, writable}
+use Rattle.sheet_writer.proofs.Lengths.{length-sheet}
 use Rattle.sheet_writer.proofs.Writing.{sheet-filled}
 use Rattle.sheet_writer.proofs.write.Statement.{statement}
 use Rattle.sheet_writer.proofs.write.Tie as tie

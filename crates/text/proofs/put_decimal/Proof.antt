@@ -7,8 +7,8 @@ use native.Mathlib.Omega.{arith}
 use borrow.Author.Needs.{needs}
 use lib.ListN.{length, take, replicate, length-append}
 use lib.Seq.{sets, take-at}
-use Rattle.text.specs.Numbers.{decimal}
-use Rattle.text.specs.declared.Digits.{Digits}
+use Rattle.digits.specs.Numbers.{decimal}
+use Rattle.digits.specs.declared.Digits.{Digits}
 use Rattle.text.proofs.put_decimal.Statement.{statement}
 use Rattle.text.proofs.put_decimal.Tie as tie
 

@@ -5,8 +5,8 @@ use mathlib.Core.Bool.{true, false}
 use native.Mathlib.Omega.{arith}
 use borrow.Author.Needs.{needs}
 use borrow.Author.Tests.{eq-eqb, ne-eqb, lt-ltb, le-ltb, not-true, not-false}
-use Rattle.text.specs.Numbers.{isDigit}
-use Rattle.text.proofs.Numbers.{digit-low}
+use Rattle.digits.specs.Numbers.{isDigit}
+use Rattle.digits.proofs.Numbers.{digit-low}
 use Rattle.sheet.specs.Parse.{next}
 use Rattle.sheet_reader.proofs.parse.in_number.Statement.{statement}
 use Rattle.sheet_reader.proofs.parse.in_number.Tie as tie

@@ -5,9 +5,9 @@ use mathlib.Core.List.{[], _∷_}
 use Prim.Native.Nat.{ℕ, _+_, _≤_}
 use native.Mathlib.Omega.{arith}
 use lib.ListN.{length, length-append}
-use Rattle.text.specs.declared.Digits.{Digits}
-use Rattle.text.specs.Numbers.{decimal}
-use Rattle.text.proofs.Numbers.{length-decimal}
+use Rattle.digits.specs.declared.Digits.{Digits}
+use Rattle.digits.specs.Numbers.{decimal}
+use Rattle.digits.proofs.Numbers.{length-decimal}
 use Rattle.sheet.specs.Text.{lineOf}
 use Rattle.sheet_writer.proofs.Writing.{sample-minus, sample-plain}
 use Rattle.sheet_writer.proofs.writer.line_len.Statement.{statement}

@@ -8,7 +8,7 @@ use borrow.Author.Needs.{needs}
 use lib.ListN.{length}
 use lib.Seq.{sets}
 use Rattle.integers.proofs.Lists.{sets-append}
-use Rattle.text.specs.Numbers.{decimal}
+use Rattle.digits.specs.Numbers.{decimal}
 use Rattle.sheet.specs.Text.{lineOf}
 use Rattle.sheet_writer.proofs.Writing.{sample-minus, sample-plain}
 use Rattle.sheet_writer.proofs.writer.put_line.Statement.{statement}

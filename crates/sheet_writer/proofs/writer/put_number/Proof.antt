@@ -8,7 +8,7 @@ use borrow.Author.Needs.{needs}
 use lib.ListN.{length, length-append}
 use lib.Seq.{sets}
 use Rattle.integers.proofs.Lists.{sets-append}
-use Rattle.text.specs.Numbers.{decimal}
+use Rattle.digits.specs.Numbers.{decimal}
 use Rattle.sheet_writer.proofs.writer.put_number.Statement.{statement}
 use Rattle.sheet_writer.proofs.writer.put_number.Tie as tie
 

@@ -1,3 +1,0 @@
-pub mod Programs
-pub mod Joined
-pub mod Printing
