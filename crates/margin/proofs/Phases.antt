@@ -5,13 +5,12 @@ use mathlib.Core.Path.{_≡_, refl, subst, _∙_}
 use mathlib.Core.Bool.{Bool, true, false, Bool·beq}
 use mathlib.Mathlib.Data.Bool.Basic.{and-elim-left, and-elim-right}
 use Prim.Native.Nat.{ℕ, zero, suc, _+_, _*_, _-_, _/_, _%_, _<_, _∣_}
-use native.Mathlib.Decide.{decLt}
 use native.Mathlib.Nat.{dvd-zero, dvd-add, dvd-sub, dvd-mul-right, dvd-mod-iff, dvd-of-mod-eq-zero, mul-div-cancel', mod-lt, lt-of-mul-lt-mul-left}
 use native.Mathlib.Omega.{arith}
 use lib.Dec.{lit<}
 use lib.IntN.{pos}
 use lib.ListN.{replicate}
-use Rattle.integers.proofs.Tests.{passesBelow, below-at}
+use Rattle.integers.proofs.Tests.{lt-or-le, passesBelow, below-at}
 use Rattle.tones.specs.declared.Tones.{Tones}
 use Rattle.tones.specs.Bands.{stepOf}
 use Rattle.margin.specs.Windows.{across, isSpace, Margins}
@@ -55,14 +54,12 @@ module _ (noise : ℕ) (t : Tones) (stride count : ℕ) (whole : stride * count 
       (phases-passed (p / stride) (lt-of-mul-lt-mul-left stride (rw (mul-div-cancel' stride d, whole) h)))
 
   all : (p : ℕ) → Begins stride p → phaseSure w t p ≡ true
-  all p b = go (decLt p 960)
-    where
-      go : Dec (p < 960) → phaseSure w t p ≡ true
-      go (yes h) = lower p (b .multiple) h
-      go (no f) =
-          let e : p - 960 + 960 ≡ p = omega arith in
-          subst (λ (q : ℕ). phaseSure w t q ≡ true) e
-          (phase-opposite w t (p - 960) ∙ lower (p - 960) (dvd-sub stride (b .multiple) half-cycle) (omega arith))
+  all p b =
+      lt-or-le p 960 (lower p (b .multiple))
+      (λ h.
+      let e : p - 960 + 960 ≡ p = omega arith in
+      subst (λ (q : ℕ). phaseSure w t q ≡ true) e
+      (phase-opposite w t (p - 960) ∙ lower (p - 960) (dvd-sub stride (b .multiple) half-cycle) (omega arith)))
 
   two-bits : (p : ℕ) → Begins stride p → (a b k : ℕ) → k < 32 → windowSure w (readSure (isSpace a) (isSpace b) k) (across t p a b k) ≡ true
   two-bits p begins = across-passed w t p (all p begins)

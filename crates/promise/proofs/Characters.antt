@@ -8,12 +8,13 @@ use mathlib.Core.Bool.{true, false≢true}
 use mathlib.Core.List.{List, _∷_}
 use mathlib.Core.Logic.{⊎-elim}
 use Prim.Native.Nat.{ℕ, zero, suc, _+_, _*_, _^_, _/_, _%_, _≤_, _<_}
-use native.Mathlib.Decide.{decLe, ℕ-discrete}
+use native.Mathlib.Decide.{ℕ-discrete}
 use native.Mathlib.Nat.{mod-eq-of-lt}
 use native.Mathlib.Numerals.{add-one, sub-one, one-add}
 use native.Mathlib.Omega.{arith}
 use lib.ListN.{getD}
 use lib.Pow.{mod-pow-add}
+use Rattle.integers.proofs.Tests.{lt-or-le}
 use Rattle.transmitter.specs.Samples.{charBits}
 use Rattle.transmitter.proofs.Laws.{bitAt, bit-start, bit-data, bit-stop}
 use Rattle.control.specs.declared.Decision.{Decision}
@@ -105,19 +106,20 @@ module _ (c : ℕ) (small : c < 256) (Y : List ℕ) (t : ℕ) (d : Decision) (h 
   not-both p q = false≢true (ap (λ (x : Decision). x .space) (sym p ∙ q))
 
   step-before : t ≤ 19 → (s : Control) (X : List ℕ) → BetweenCharacters (c ∷ Y) t s X → Moves Next s d X
-  step-before l s X r = by-count (decLe t 14) s X r
+  step-before l s X r =
+      lt-or-le t 15
+      (λ p. moves-on (λ s X r. before (omega arith) r) (stays-between (c ∷ Y) t d (h .mark-before (omega arith)) s X r))
+      (λ p. from-15 p s X r)
     where
-      by-count : Dec (t ≤ 14) → (s : Control) (X : List ℕ) → BetweenCharacters (c ∷ Y) t s X → Moves Next s d X
-      by-count (yes p) s X r = moves-on (λ s X r. before (omega arith) r) (stays-between (c ∷ Y) t d (h .mark-before p) s X r)
-      by-count (no p) s X (stop-due byte wait a b) = absurd (omega arith)
-      by-count (no p) s X none-due = ⊎-elim mark space (either-bit d (h .good))
+      from-15 : 15 ≤ t → (s : Control) (X : List ℕ) → BetweenCharacters (c ∷ Y) t s X → Moves Next s d X
+      from-15 p s X (stop-due byte wait a b) = absurd (omega arith)
+      from-15 p s X none-due = ⊎-elim mark space (either-bit d (h .good))
         where
           mark : d ≡ reads 1 → Moves Next (at 32 Searching) d (c ∷ Y)
-          mark e = searches d e (go (decLe t 18))
-            where
-              go : Dec (t ≤ 18) → Next (at 32 Searching) (c ∷ Y)
-              go (yes q) = before (omega arith) none-due
-              go (no q) = absurd (not-both e (h .own-bit 0 (omega arith) (omega arith) ∙ ap reads (bit-start c)))
+          mark e =
+              searches d e
+              (lt-or-le t 19 (λ q. before (omega arith) none-due)
+              (λ q. absurd (not-both e (h .own-bit 0 (omega arith) (omega arith) ∙ ap reads (bit-start c)))))
 
           space : d ≡ reads 0 → Moves Next (at 32 Searching) d (c ∷ Y)
           space e = finds d e (reading 16 0 0 (omega arith) (omega arith) (omega arith) (omega arith) refl)

@@ -6,8 +6,9 @@ use mathlib.Core.Bool.{Bool, true, false}
 use mathlib.Core.List.{List, []}
 use mathlib.Core.Logic.{_⊎_, inl, inr, ⊎-elim}
 use Prim.Native.Nat.{ℕ, zero, suc, _+_, _≤_, _<_, min}
-use native.Mathlib.Decide.{decLe, ℕ-discrete}
+use native.Mathlib.Decide.{ℕ-discrete}
 use native.Mathlib.Omega.{arith}
+use Rattle.integers.proofs.Tests.{lt-or-le}
 use Rattle.control.specs.declared.Decision.{Decision}
 use Rattle.control.specs.declared.Stage.the-variants.{Searching, Waiting}
 use Rattle.control.specs.Control.{Control}
@@ -62,18 +63,16 @@ pub data AfterTrailer (k : ℕ) : Control → List ℕ → Type 0 where
 
 pub after-trailer-step : (k : ℕ) (d : Decision) → (k ≤ 15 → d .space ≡ false) → (32 ≤ k → d .good ≡ false) → (s : Control) (X : List ℕ) → AfterTrailer k s X
     → Moves (AfterTrailer (suc k)) s d X
-after-trailer-step k d at-first afterwards s X (still-searching run) = go (decLe k 15)
+after-trailer-step k d at-first afterwards s X (still-searching run) =
+    lt-or-le k 16 (λ h. on (search-mark (runAfter run (d .good)) d (at-first (omega arith))))
+    (λ h.
+    ⊎-elim on
+    (λ e. moves (at run Searching) d (runAfter run (d .good)) (quiet (Waiting 16 0 0)) [] refl e refl
+    (false-start (runAfter run (d .good)) 16 (omega arith) (omega arith)))
+    (search-either (runAfter run (d .good)) d))
   where
     on : nextOf Searching (runAfter run (d .good)) d ≡ quiet Searching → Moves (AfterTrailer (suc k)) (at run Searching) d []
     on e = moves (at run Searching) d (runAfter run (d .good)) (quiet Searching) [] refl e refl (still-searching (runAfter run (d .good)))
-
-    go : Dec (k ≤ 15) → Moves (AfterTrailer (suc k)) (at run Searching) d []
-    go (yes h) = on (search-mark (runAfter run (d .good)) d (at-first h))
-    go (no h) =
-        ⊎-elim on
-        (λ e. moves (at run Searching) d (runAfter run (d .good)) (quiet (Waiting 16 0 0)) [] refl e refl
-        (false-start (runAfter run (d .good)) 16 (omega arith) (omega arith)))
-        (search-either (runAfter run (d .good)) d)
 after-trailer-step k d at-first afterwards s X (false-start run zero a b) = absurd (omega arith)
 after-trailer-step k d at-first afterwards s X (false-start run (suc zero) a b) =
     moves (at run (Waiting 1 0 0)) d (runAfter run (d .good)) (quiet Searching) [] refl

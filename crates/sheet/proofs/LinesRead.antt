@@ -4,13 +4,13 @@ use mathlib.Core.Path.{_≡_, refl, sym, ap, ap₂, _∙_}
 use mathlib.Core.Bool.{Bool, true, false}
 use mathlib.Core.List.{List, [], _∷_, _++_}
 use Prim.Native.Nat.{ℕ, zero, suc, _+_, _-_, _*_, _/_, _%_, _<_}
-use native.Mathlib.Decide.{decLt}
 use native.Mathlib.Nat.{not-suc-le-zero}
 use native.Mathlib.Omega.{arith}
 use borrow.Author.Tests.{ne-eqb, lt-ltb}
 use lib.Dec.{eqb}
 use lib.IntN.{ℤ, pos, negsuc, natAbs}
 use Rattle.integers.specs.All.{All, none, more}
+use Rattle.integers.proofs.Tests.{lt-or-le}
 use Rattle.calls.specs.Runs as runs
 use Rattle.calls.proofs.Runs.{RunLaws, run-laws}
 use Rattle.digits.specs.Numbers.{isDigit, decimal}
@@ -68,19 +68,17 @@ leads-append a b c s t p q =
 module _ (from : Line) (m : Bool) (start : (d : ℕ) → d < 10 → 0 < d → next from (48 + d) ≡ Number m d) where
   leads : (k n : ℕ) → n < k → 0 < n → n < 10000 → Leads from (decimal n) (Number m n)
   leads zero n h p s = absurd (not-suc-le-zero h)
-  leads (suc k) n h p s = go (λ q. leads k (n / 10) (omega arith) q (omega arith)) (decLt n 10)
-    where
-      go : (0 < n / 10 → Leads from (decimal (n / 10)) (Number m (n / 10))) → Dec (n < 10) → Leads from (decimal n) (Number m n)
-      go before (yes l) = rw (decimal-small n l) (leads-digit n l from (Number m n) (start n l p))
-      go before (no l) =
-          let e : n / 10 * 10 + n % 10 ≡ n = omega arith in
-          let d : n % 10 < 10 = omega arith in
-          let q : 0 < n / 10 = omega arith in
-          rw e at
-          (rw (sym (decimal-digit (n / 10) (n % 10) q d)) at
-          (leads-append from (Number m (n / 10)) (Number m (n / 10 * 10 + n % 10)) (decimal (n / 10)) ((48 + n % 10) ∷ [])
-          (before q)
-          (leads-digit (n % 10) d (Number m (n / 10)) (Number m (n / 10 * 10 + n % 10)) (further (n % 10) d m (n / 10) (omega arith)))))
+  leads (suc k) n h p s =
+      lt-or-le n 10 (λ l. rw (decimal-small n l) (leads-digit n l from (Number m n) (start n l p)))
+      (λ l.
+      let e : n / 10 * 10 + n % 10 ≡ n = omega arith in
+      let d : n % 10 < 10 = omega arith in
+      let q : 0 < n / 10 = omega arith in
+      rw e at
+      (rw (sym (decimal-digit (n / 10) (n % 10) q d)) at
+      (leads-append from (Number m (n / 10)) (Number m (n / 10 * 10 + n % 10)) (decimal (n / 10)) ((48 + n % 10) ∷ [])
+      (leads k (n / 10) (omega arith) q (omega arith))
+      (leads-digit (n % 10) d (Number m (n / 10)) (Number m (n / 10 * 10 + n % 10)) (further (n % 10) d m (n / 10) (omega arith))))))
 
   -- and a line feed behind them ends the line
   ends : (n : ℕ) → 0 < n → n < 10000
