@@ -111,7 +111,7 @@ fn send(sines: &Sines, mut state: State, bits: &[u8], out: &mut [i16]) -> Answer
     }
 }
 
-/// A whole sending from the fresh state of a band that is 1 or 2: leader,
+/// A whole sending from the fresh state of a known band: leader,
 /// characters and trailer.
 pub fn sending(sines: &Sines, band: u8, message: &[u8]) -> Vec<i16> {
     let mut samples = Vec::new();

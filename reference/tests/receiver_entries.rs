@@ -34,7 +34,7 @@ fn read_in_turn(
     })
 }
 
-/// Every character in both bands, each sample altered by at most `most`.
+/// Every character in each band, each sample altered by at most `most`.
 fn read_recordings(seed: u64, most: i16) {
     let mut random = Random::new(seed);
     for band in BANDS {

@@ -1,4 +1,4 @@
-//! Every character in both bands, read in blocks of many sizes.
+//! Every character in each band, read in blocks of many sizes.
 
 use crate::common::receiver::{assert_events, fresh, read, read_on};
 use crate::common::recording::{as_events, every_character, random_blocks, sending, surrounded};

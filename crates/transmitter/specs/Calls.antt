@@ -21,7 +21,7 @@ fresh band = record { band = band; phase = 0 }
 unfoldable pub openOf : ℕ → Opened
 openOf band = cond (isBand band) (record { number = 0; transmitter = fresh band }) (record { number = 1; transmitter = fresh 1 })
 
--- the ranges of a state: band 1 or 2, phase 0 to 1,919
+-- the ranges of a state: a known band, and phase 0 to 1,919
 unfoldable pub inRange : Transmitter → Bool
 inRange s = isBand (s .band) && ltb (s .phase) 1920
 

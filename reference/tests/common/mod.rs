@@ -90,7 +90,7 @@ impl Side {
         }
     }
 
-    /// The fresh state of a band that is 1 or 2.
+    /// The fresh state of a known band.
     pub fn fresh(self, band: u8) -> State {
         let (number, state) = self.open(band);
         assert_eq!((number, state), (0, State { band, phase: 0 }), "{self:?}");

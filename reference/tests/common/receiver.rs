@@ -42,7 +42,7 @@ pub fn open(side: Side, band: u8) -> (u8, Numbers) {
     }
 }
 
-/// The fresh state of a band that is 1 or 2, opened on both sides.
+/// The fresh state of a known band, opened on both sides.
 pub fn fresh(band: u8) -> Numbers {
     let state = Numbers { band, ..FRESH };
     for side in SIDES {
