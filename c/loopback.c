@@ -1,4 +1,4 @@
-/* Sends its first argument in band 1 and prints the events read back, a line for each; or the number of a refusal, with
+/* Sends its argument in band 1 and prints the events read back, a line for each; or the number of a refusal, with
  * status 1. From the repository's root, after `rt staticlib sending` and `rt staticlib receiving`:
  *
  *     cc -std=c99 -o loopback c/loopback.c target/staticlib/libsending.a target/staticlib/libreceiving.a && ./loopback HELLO
@@ -57,7 +57,12 @@ int main(int argc, char **argv)
 {
     static int16_t samples[MOST_SAMPLES];
     size_t length;
-    uint8_t number = transmit(argc > 1 ? argv[1] : "", samples, MOST_SAMPLES, &length);
+    uint8_t number;
+    if (argc != 2) {
+        fprintf(stderr, "usage: %s MESSAGE\n", argc > 0 ? argv[0] : "loopback");
+        return 2;
+    }
+    number = transmit(argv[1], samples, MOST_SAMPLES, &length);
     if (number == 0)
         number = receive(samples, length);
     if (number != 0)

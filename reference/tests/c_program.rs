@@ -31,14 +31,18 @@ fn program() -> &'static Path {
     })
 }
 
-/// What the program prints for the message, and its status.
-fn run(message: &[u8]) -> (String, Option<i32>) {
-    let output = Command::new(program())
-        .arg(OsStr::from_bytes(message))
-        .output();
+/// What the program prints for the messages, and its status.
+fn run_all(messages: &[&[u8]]) -> (String, Option<i32>) {
+    let arguments = messages.iter().map(|message| OsStr::from_bytes(message));
+    let output = Command::new(program()).args(arguments).output();
     let output = output.expect("the program runs");
     let printed = String::from_utf8(output.stdout).expect("it prints numbers");
     (printed, output.status.code())
+}
+
+/// The same for one message.
+fn run(message: &[u8]) -> (String, Option<i32>) {
+    run_all(&[message])
 }
 
 fn assert_read_back(message: &[u8]) {
@@ -63,6 +67,12 @@ fn no_characters_give_no_event() {
 #[test]
 fn the_longest_message_takes_more_than_one_block() {
     assert_read_back(&[b'U'; 100]);
+}
+
+#[test]
+fn it_takes_one_message() {
+    assert_eq!(run_all(&[]), (String::new(), Some(2)));
+    assert_eq!(run_all(&[b"A", b"B"]), (String::new(), Some(2)));
 }
 
 #[test]
