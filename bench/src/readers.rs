@@ -8,7 +8,7 @@ use reference::receiver::{self, places_needed, Answer, State, MOST_SAMPLES};
 use reference::sine::Sines;
 use std::time::Duration;
 
-/// The samples of one call: as many as there may be.
+/// The samples of one call, where nothing else is said: as many as there may be.
 pub const BLOCK: usize = MOST_SAMPLES;
 
 pub struct Reading {
@@ -22,11 +22,12 @@ pub trait Reader {
     fn read(&self, recording: &Recording) -> Reading;
 }
 
-/// How to open a band, and how to read a block: that gives the number, the
-/// count and the next state.
+/// How to open a band, how to read a block, which gives the number, the count
+/// and the next state, and how many samples a block has.
 struct Blocks<S, B> {
     open: fn(u8) -> (u8, S),
     block: B,
+    size: usize,
 }
 
 impl<S, B: Fn(S, &[i16], &mut [u16]) -> (u8, usize, S)> Blocks<S, B> {
@@ -36,7 +37,7 @@ impl<S, B: Fn(S, &[i16], &mut [u16]) -> (u8, usize, S)> Blocks<S, B> {
         let (number, mut state) = (self.open)(band);
         assert_eq!(number, 0);
         let mut count = 0;
-        for samples in samples.chunks(BLOCK) {
+        for samples in cut(samples, self.size) {
             let (number, more, next) = (self.block)(state, samples, &mut events[count..]);
             assert_eq!(number, 0);
             count += more;
@@ -46,42 +47,52 @@ impl<S, B: Fn(S, &[i16], &mut [u16]) -> (u8, usize, S)> Blocks<S, B> {
     }
 }
 
+/// The samples in blocks of one size. If it is 0, as many blocks as samples.
+fn cut(samples: &[i16], size: usize) -> impl Iterator<Item = &[i16]> {
+    let blocks = samples.len().div_ceil(size.max(1));
+    (0..blocks).map(move |i| &samples[i * size..samples.len().min((i + 1) * size)])
+}
+
 impl<S, B: Fn(S, &[i16], &mut [u16]) -> (u8, usize, S)> Reader for Blocks<S, B> {
-    /// The events must be the characters sent.
+    /// The events must be those of the recording, so that no work is left out.
     fn read(&self, recording: &Recording) -> Reading {
-        let message = &recording.message;
         // The last call still gets as many places as a whole block needs.
-        let mut events = vec![u16::MAX; message.len() + places_needed(BLOCK)];
+        let places = recording.events.len() + places_needed(self.size);
+        let mut events = vec![u16::MAX; places];
         let (time, count) = clock::timed(Of::ThisProcess, || {
             self.read_all(recording.band, &recording.samples, &mut events)
         });
-        let character = |&event: &u16| u8::try_from(event).expect("an event is a fault");
-        let characters: Vec<u8> = events[..count].iter().map(character).collect();
-        assert!(characters == *message, "the events are not the characters");
-        Reading { time, characters }
+        let events = &events[..count];
+        assert!(events == recording.events, "the events are wrong");
+        let character = |&event: &u16| u8::try_from(event).ok();
+        Reading {
+            time,
+            characters: events.iter().filter_map(character).collect(),
+        }
     }
 }
 
-pub fn library() -> impl Reader {
+pub fn library(size: usize) -> impl Reader {
     Blocks {
         open: library::receiver_open,
         block: |state, samples: &[i16], events: &mut [u16]| {
             let answer = library::receiver_block(state, samples, events);
             (answer.number, answer.count, answer.state)
         },
+        size,
     }
 }
 
 /// A block call of the reference.
-pub fn reference(
-    sines: &Sines,
-    block: fn(&Sines, State, &[i16], &mut [u16]) -> Answer,
-) -> impl Reader + '_ {
+pub type Block = fn(&Sines, State, &[i16], &mut [u16]) -> Answer;
+
+pub fn reference(sines: &Sines, block: Block, size: usize) -> impl Reader + '_ {
     Blocks {
         open: receiver::open,
         block: move |state, samples: &[i16], events: &mut [u16]| {
             let answer = block(sines, state, samples, events);
             (answer.number, answer.count, answer.state)
         },
+        size,
     }
 }

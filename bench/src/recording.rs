@@ -1,33 +1,75 @@
 //! The recordings that are read.
 
 use reference::random::Random;
+use reference::receiver::{self, places_needed, LARGEST_SAMPLE, MOST_SAMPLES};
 use reference::sine::Sines;
-use reference::transmitter;
+use reference::transmitter::{self, STEPS};
 
 pub const SEED: u64 = 20;
-pub const DISTURBANCE: usize = 100;
+pub const DISTURBANCE: i16 = 100;
+/// Sent behind silence and idle mark, which have no event of their own: so a
+/// reader that loses its place in them is caught.
+const END: &[u8] = b"END";
 const SAMPLES_PER_SECOND: u32 = 9_600;
 const BYTES_PER_SAMPLE: u32 = 2;
 
 pub struct Recording {
     pub band: u8,
-    pub message: Vec<u8>,
     pub samples: Vec<i16>,
+    /// What document 01's rule makes of it.
+    pub events: Vec<u16>,
+    /// The characters of a sending.
+    pub message: Option<Vec<u8>>,
 }
 
 impl Recording {
     /// A sending of random characters, each sample altered at random.
-    pub fn new(sines: &Sines, band: u8, characters: usize) -> Recording {
+    pub fn sending(sines: &Sines, band: u8, characters: usize) -> Recording {
         let mut random = Random::new(SEED);
         let message = random.bytes(characters);
-        let mut samples = transmitter::sending(sines, band, &message);
-        for sample in &mut samples {
-            *sample += random.below(2 * DISTURBANCE + 1) as i16 - DISTURBANCE as i16;
-        }
+        let sent = transmitter::sending(sines, band, &message);
         Recording {
             band,
-            message,
+            samples: disturbed(sent, random),
+            events: as_events(&message),
+            message: Some(message),
+        }
+    }
+
+    /// Silence and the end, each sample altered likewise.
+    pub fn silence(sines: &Sines, band: u8, length: usize) -> Recording {
+        Recording::ended(sines, band, vec![0; length])
+    }
+
+    /// The tone of mark and the end, each sample altered likewise.
+    pub fn idle_mark(sines: &Sines, band: u8, length: usize) -> Recording {
+        let step = usize::from(STEPS[usize::from(band) - 1][1]);
+        let mark = (0..length).map(|i| sines.s(i * step));
+        Recording::ended(sines, band, mark.collect())
+    }
+
+    fn ended(sines: &Sines, band: u8, mut samples: Vec<i16>) -> Recording {
+        samples.extend(transmitter::sending(sines, band, END));
+        let samples = disturbed(samples, Random::new(SEED));
+        let recording = Recording::of(sines, band, samples);
+        assert!(recording.events == as_events(END));
+        recording
+    }
+
+    /// Samples of the whole range.
+    pub fn noise(sines: &Sines, band: u8, length: usize) -> Recording {
+        let mut random = Random::new(SEED);
+        let samples = (0..length).map(|_| around_0(&mut random, LARGEST_SAMPLE));
+        Recording::of(sines, band, samples.collect())
+    }
+
+    /// These samples, which hold no message to count.
+    pub fn of(sines: &Sines, band: u8, samples: Vec<i16>) -> Recording {
+        Recording {
+            band,
+            events: step_by_step(sines, band, &samples),
             samples,
+            message: None,
         }
     }
 
@@ -53,4 +95,34 @@ impl Recording {
         bytes.extend(self.samples.iter().flat_map(|sample| sample.to_le_bytes()));
         bytes
     }
+}
+
+fn as_events(message: &[u8]) -> Vec<u16> {
+    message.iter().map(|&byte| byte.into()).collect()
+}
+
+/// The events of the receiver that weighs every window and is not measured.
+fn step_by_step(sines: &Sines, band: u8, samples: &[i16]) -> Vec<u16> {
+    let (_, mut state) = receiver::open(band);
+    let mut places = vec![0; places_needed(MOST_SAMPLES)];
+    let mut events = Vec::new();
+    for samples in samples.chunks(MOST_SAMPLES) {
+        let answer = receiver::block(sines, state, samples, &mut places);
+        assert_eq!(answer.number, 0);
+        events.extend(&places[..answer.count]);
+        state = answer.state;
+    }
+    events
+}
+
+/// From -`most` to `most`.
+fn around_0(random: &mut Random, most: i16) -> i16 {
+    random.below(2 * most as usize + 1) as i16 - most
+}
+
+fn disturbed(mut samples: Vec<i16>, mut random: Random) -> Vec<i16> {
+    for sample in &mut samples {
+        *sample += around_0(&mut random, DISTURBANCE);
+    }
+    samples
 }

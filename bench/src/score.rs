@@ -1,15 +1,19 @@
 //! How well a message was read.
 
+use std::fmt;
+
 /// The characters that stand in both messages in the same order, as many as
 /// there can be, are right. Of the others, those sent are missing and those
 /// read are wrong.
 pub struct Score {
-    pub right: usize,
-    pub missing: usize,
-    pub wrong: usize,
+    right: usize,
+    missing: usize,
+    wrong: usize,
 }
 
 impl Score {
+    pub const HEADING: &'static str = " right  missing  wrong";
+
     pub fn new(sent: &[u8], read: &[u8]) -> Score {
         let right = in_common(sent, read);
         Score {
@@ -17,6 +21,18 @@ impl Score {
             missing: sent.len() - right,
             wrong: read.len() - right,
         }
+    }
+}
+
+/// The columns under the heading.
+impl fmt::Display for Score {
+    fn fmt(&self, out: &mut fmt::Formatter) -> fmt::Result {
+        let Score {
+            right,
+            missing,
+            wrong,
+        } = self;
+        write!(out, "{right:>6}{missing:>9}{wrong:>7}")
     }
 }
 

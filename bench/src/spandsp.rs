@@ -3,7 +3,7 @@
 #![allow(unsafe_code)]
 
 use crate::clock::{self, Of};
-use crate::readers::{Reader, Reading, BLOCK};
+use crate::readers::{Reader, Reading};
 use crate::recording::Recording;
 use reference::receiver::places_needed;
 
@@ -19,7 +19,10 @@ extern "C" {
     ) -> usize;
 }
 
-pub struct Spandsp;
+/// Takes this many samples in a call.
+pub struct Spandsp {
+    pub size: usize,
+}
 
 impl Reader for Spandsp {
     fn read(&self, recording: &Recording) -> Reading {
@@ -33,7 +36,7 @@ impl Reader for Spandsp {
                 recording.band,
                 samples.as_ptr(),
                 samples.len(),
-                BLOCK,
+                self.size,
                 characters.as_mut_ptr(),
                 characters.len(),
             )

@@ -1,4 +1,4 @@
-//! The table: speeds, their ratios, and whether each ratio keeps its bar.
+//! A table: speeds, their ratios, and whether each ratio keeps its bar.
 
 use crate::score::Score;
 use std::fmt;
@@ -28,46 +28,75 @@ impl fmt::Display for Bar {
     }
 }
 
-pub struct Row {
-    pub name: String,
-    /// Samples in a second of CPU time.
-    pub speed: f64,
-    /// For the first row's speed in terms of this one's. The first has none.
-    pub bar: Option<Bar>,
-    pub score: Score,
+/// What the time of a row is told in.
+#[derive(Clone, Copy)]
+pub enum Unit {
+    Speed,
+    /// For calls of one sample or none.
+    Call,
 }
 
-impl Row {
-    /// The ratio, its bar and the verdict as text; and whether the bar is kept.
-    fn judged(&self, ratio: f64) -> (String, bool) {
-        let Some(bar) = self.bar else {
-            return (String::new(), true);
-        };
-        let kept = (bar.least..=bar.most).contains(&ratio);
-        let verdict = if kept { "ok" } else { "missed" };
-        (format!("{ratio:>5.2}   {bar:<15}{verdict}"), kept)
+impl Unit {
+    fn name(self) -> &'static str {
+        match self {
+            Unit::Speed => "million samples/s",
+            Unit::Call => "ns a call",
+        }
+    }
+
+    fn figure(self, seconds: f64) -> f64 {
+        match self {
+            Unit::Speed => 1e-6 / seconds,
+            Unit::Call => 1e9 * seconds,
+        }
     }
 }
 
+pub struct Row {
+    pub name: String,
+    /// The CPU time of a sample, or of a call without one.
+    pub seconds: f64,
+    pub bar: Option<Bar>,
+    pub score: Option<Score>,
+}
+
+impl Row {
+    /// The ratio, its bar and the verdict as text, and whether the bar is kept.
+    fn judged(&self, ratio: f64) -> (String, bool) {
+        let Some(bar) = self.bar else {
+            return (format!("{ratio:>6.2}"), true);
+        };
+        let kept = (bar.least..=bar.most).contains(&ratio);
+        let verdict = if kept { "ok" } else { "missed" };
+        (format!("{ratio:>6.2}   {bar:<15}{verdict}"), kept)
+    }
+
+    fn print(&self, unit: Unit, judgement: &str) {
+        let Row { name, score, .. } = self;
+        let figure = unit.figure(self.seconds);
+        let score = score.as_ref().map_or(String::new(), Score::to_string);
+        print_line(name, &format!("{figure:.1}"), judgement, &score);
+    }
+}
+
+fn print_line(name: &str, figure: &str, judgement: &str, score: &str) {
+    let line = format!("{name:<30}{figure:>17}   {judgement:<32}{score}");
+    println!("{}", line.trim_end());
+}
+
 /// Prints a table, and returns whether each row keeps its bar.
-pub fn print(title: &str, rows: &[Row]) -> bool {
-    println!(
-        "{title:<30}{:>17}   {:<31}{:>6}{:>9}{:>7}",
-        "million samples/s", "library to it", "right", "missing", "wrong"
-    );
+pub fn print(title: &str, unit: Unit, rows: &[Row]) -> bool {
+    let [first, others @ ..] = rows else {
+        return true;
+    };
+    let scored = first.score.is_some();
+    let score = if scored { Score::HEADING } else { "" };
+    print_line(title, unit.name(), "first to it", score);
+    first.print(unit, "");
     let mut all_kept = true;
-    for row in rows {
-        let (judgement, kept) = row.judged(rows[0].speed / row.speed);
-        let Score {
-            right,
-            missing,
-            wrong,
-        } = row.score;
-        println!(
-            "{:<30}{:>17.1}   {judgement:<31}{right:>6}{missing:>9}{wrong:>7}",
-            row.name,
-            row.speed / 1e6
-        );
+    for row in others {
+        let (judgement, kept) = row.judged(row.seconds / first.seconds);
+        row.print(unit, &judgement);
         all_kept &= kept;
     }
     println!();

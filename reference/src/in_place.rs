@@ -1,5 +1,5 @@
 //! The receiver's block call written for speed: each window is looked at where
-//! it lies in the block. One of the two loops that `bench/` measures beside the
+//! it lies in the block. One of the three loops that `bench/` measures beside the
 //! library.
 
 use crate::receiver::{
@@ -25,16 +25,20 @@ impl Weights {
         ])
     }
 
-    /// I and Q of space, then of mark. Each is at most 32 * 8191 * 6000, which
-    /// is below 2^31. A function of its own, because the compiler then makes
-    /// vector instructions of all four sums, and inlined only of some.
+    /// I and Q of space, then of mark. A function of its own, because the
+    /// compiler then makes vector instructions of all four sums, and inlined
+    /// only of some.
     #[inline(never)]
     fn sums(&self, window: &[i16; WINDOW]) -> [i32; 4] {
-        self.0.each_ref().map(|weights| {
-            let pairs = window.iter().zip(weights);
-            pairs.map(|(&x, &w)| i32::from(x) * i32::from(w)).sum()
-        })
+        self.0.each_ref().map(|weights| sum(window, weights))
     }
+}
+
+/// At most 32 * 8191 * 6000, which is below 2^31.
+#[inline(always)]
+pub(crate) fn sum(window: &[i16; WINDOW], weights: &[i16; WINDOW]) -> i32 {
+    let pairs = window.iter().zip(weights);
+    pairs.map(|(&x, &w)| i32::from(x) * i32::from(w)).sum()
 }
 
 /// The first refusal whose condition holds. The samples are tested without a
@@ -53,12 +57,31 @@ pub(crate) fn refusal(state: &State, samples: &[i16], places: usize) -> Option<u
     }
 }
 
-/// Run and stage, and the list with how much of it is filled.
+/// The lent list, and how much of it is filled.
+pub(crate) struct Events<'a> {
+    places: &'a mut [u16],
+    pub(crate) count: usize,
+}
+
+impl<'a> Events<'a> {
+    pub(crate) fn new(places: &'a mut [u16]) -> Events<'a> {
+        Events { places, count: 0 }
+    }
+
+    #[inline(always)]
+    pub(crate) fn put(&mut self, event: Option<u16>) {
+        if let Some(event) = event {
+            self.places[self.count] = event;
+            self.count += 1;
+        }
+    }
+}
+
+/// Run, stage and events so far.
 pub(crate) struct Progress<'a> {
     pub(crate) run: u8,
     pub(crate) stage: Stage,
-    pub(crate) count: usize,
-    events: &'a mut [u16],
+    pub(crate) events: Events<'a>,
 }
 
 impl<'a> Progress<'a> {
@@ -66,8 +89,7 @@ impl<'a> Progress<'a> {
         Progress {
             run: state.run,
             stage: state.stage,
-            count: 0,
-            events,
+            events: Events::new(events),
         }
     }
 
@@ -78,11 +100,23 @@ impl<'a> Progress<'a> {
         let (space, mark) = (space_i + space_q, mark_i + mark_q);
         let event;
         (self.run, self.stage, event) = decided(self.run, self.stage, space, mark);
-        if let Some(event) = event {
-            self.events[self.count] = event;
-            self.count += 1;
-        }
+        self.events.put(event);
     }
+}
+
+/// The samples of the windows that reach back into the old one.
+pub(crate) const HEAD: usize = 2 * WINDOW - 1;
+
+/// The old window and the samples behind it, with zeros where the block has no
+/// more.
+pub(crate) fn head(window: &[i16; WINDOW], samples: &[i16]) -> [i16; HEAD] {
+    let mut head = [0; HEAD];
+    let (old, new) = head.split_at_mut(WINDOW);
+    old.copy_from_slice(window);
+    for (place, &sample) in new.iter_mut().zip(samples) {
+        *place = sample;
+    }
+    head
 }
 
 /// The same as [`crate::receiver::block`].
@@ -92,13 +126,8 @@ pub fn block(sines: &Sines, state: State, samples: &[i16], events: &mut [u16]) -
     }
     let weights = Weights::new(sines, state.band);
     let mut progress = Progress::new(&state, events);
-
-    // The old window and the samples whose windows reach back into it.
-    let short = samples.len().min(WINDOW - 1);
-    let mut head = [0; 2 * WINDOW - 1];
-    head[..WINDOW].copy_from_slice(&state.window);
-    head[WINDOW..WINDOW + short].copy_from_slice(&samples[..short]);
-    let head = &head[..WINDOW + short];
+    let head = head(&state.window, samples);
+    let head = &head[..HEAD.min(WINDOW + samples.len())];
 
     // The head's first window is the old one, which was weighed before.
     for window in head[1..].windows(WINDOW) {
@@ -111,7 +140,7 @@ pub fn block(sines: &Sines, state: State, samples: &[i16], events: &mut [u16]) -
     let last = samples.last_chunk().or(head.last_chunk());
     Answer {
         number: 0,
-        count: progress.count,
+        count: progress.events.count,
         state: State {
             window: *last.expect("the head holds a window"),
             run: progress.run,

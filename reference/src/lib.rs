@@ -3,12 +3,14 @@
 //! none of the product's code.
 //! Decision 16 of `docs/DECISIONS.md` says what else was known.
 //! The tests in `tests/` compare it with the static library and the programs.
-//! `in_place` and `shifted_window` are the receiver again, written for speed;
-//! the benchmark measures the library beside them.
+//! `in_place`, `shifted_window` and `asked_windows` are the receiver again,
+//! written for speed, the last by the method of the product's code; the benchmark
+//! measures the library beside them.
 //! `picture` draws `docs/windows.svg` from the same sine, transmitter and sums.
 
 #![deny(unsafe_code)]
 
+pub mod asked_windows;
 pub mod disturbance;
 pub mod in_place;
 pub mod library;

@@ -181,11 +181,17 @@ impl State {
     }
 }
 
+/// The level of step 3.
+#[inline]
+pub(crate) fn is_good(space: i64, mark: i64) -> bool {
+    space.max(mark) >= GOOD_ENERGY
+}
+
 /// Steps 3 to 5: the next run and stage, and the event if there is one.
 #[inline]
 pub(crate) fn decided(run: u8, stage: Stage, space: i64, mark: i64) -> (u8, Stage, Option<u16>) {
     // 3. The level and the run.
-    let good = space.max(mark) >= GOOD_ENERGY;
+    let good = is_good(space, mark);
     let run = if good { (run + 1).min(FULL_RUN) } else { 0 };
 
     let (stage, event) = match stage {
@@ -199,12 +205,12 @@ pub(crate) fn decided(run: u8, stage: Stage, space: i64, mark: i64) -> (u8, Stag
     (run, stage, event)
 }
 
-fn waiting(wait: u8, slot: u8, byte: u8) -> Stage {
+pub(crate) fn waiting(wait: u8, slot: u8, byte: u8) -> Stage {
     Stage::Waiting { wait, slot, byte }
 }
 
 /// Step 5 when the wait is over.
-fn taken(slot: u8, byte: u8, good: bool, space: i64, mark: i64) -> (Stage, Option<u16>) {
+pub(crate) fn taken(slot: u8, byte: u8, good: bool, space: i64, mark: i64) -> (Stage, Option<u16>) {
     if slot == 0 {
         // Start.
         if good && space > mark {

@@ -1,16 +1,15 @@
 //! The receiver's block call with i16 weights, i32 sums and a window that is
-//! shifted at each sample. One of the two loops that `bench/` measures beside
+//! shifted at each sample. One of the three loops that `bench/` measures beside
 //! the library.
 
-use crate::in_place::{refusal, Progress, Weights};
+use crate::in_place::{refusal, sum, Progress, Weights};
 use crate::receiver::{refused, Answer, State, WINDOW};
 use crate::sine::Sines;
 
 /// One sum to a call, which is quicker here than all four in one.
 #[inline(never)]
-fn sum(window: &[i16; WINDOW], weights: &[i16; WINDOW]) -> i32 {
-    let pairs = window.iter().zip(weights);
-    pairs.map(|(&x, &w)| i32::from(x) * i32::from(w)).sum()
+fn one_sum(window: &[i16; WINDOW], weights: &[i16; WINDOW]) -> i32 {
+    sum(window, weights)
 }
 
 /// The same as [`crate::receiver::block`].
@@ -24,11 +23,15 @@ pub fn block(sines: &Sines, state: State, samples: &[i16], events: &mut [u16]) -
     for &sample in samples {
         window.copy_within(1.., 0);
         window[WINDOW - 1] = sample;
-        progress.advance(weights.0.each_ref().map(|weights| sum(&window, weights)));
+        let sums = weights
+            .0
+            .each_ref()
+            .map(|weights| one_sum(&window, weights));
+        progress.advance(sums);
     }
     Answer {
         number: 0,
-        count: progress.count,
+        count: progress.events.count,
         state: State {
             window,
             run: progress.run,

@@ -10,13 +10,14 @@ use reference::library::Numbers;
 use reference::random::Random;
 use reference::receiver::{places_needed, Answer, State};
 use reference::sine::Sines;
-use reference::{in_place, receiver, shifted_window};
+use reference::{asked_windows, in_place, receiver, shifted_window};
 
 type Block = fn(&Sines, State, &[i16], &mut [u16]) -> Answer;
 
-const PEERS: [(&str, Block); 2] = [
+const PEERS: [(&str, Block); 3] = [
     ("in-place", in_place::block),
     ("shifted-window", shifted_window::block),
+    ("asked-windows", asked_windows::block),
 ];
 
 /// Each peer's answer must be the step-by-step one's, in every place. Returns

@@ -1,40 +1,17 @@
 //! Noise, and bursts of tone in it, where faults are frequent.
 
-use crate::common::receiver::{fresh, read_on, CARRIER_LOST, NO_STOP_BIT};
-use crate::common::recording::{around_0, random_blocks, sending};
+use crate::common::met::{assert_frequent, kinds};
+use crate::common::receiver::{fresh, read_on};
+use crate::common::recording::{around_0, noise, random_blocks, sending};
 use crate::common::states::{any_samples, steps};
 use crate::common::{other_band, sines, BANDS};
 use reference::random::Random;
-
-/// How many events are characters, lack a stop bit or tell a lost carrier.
-fn kinds(events: &[u16]) -> [usize; 3] {
-    let mut kinds = [0; 3];
-    for &event in events {
-        kinds[match event {
-            0..=255 => 0,
-            NO_STOP_BIT => 1,
-            CARRIER_LOST => 2,
-            _ => panic!("event {event}"),
-        }] += 1;
-    }
-    kinds
-}
 
 /// The kinds of the events that either side tells of the samples, in blocks of
 /// random sizes up to `longest`.
 fn read(random: &mut Random, band: u8, samples: &[i16], longest: usize) -> [usize; 3] {
     let blocks = random_blocks(random, samples, longest);
     kinds(&read_on(fresh(band), blocks).0)
-}
-
-fn noise(random: &mut Random, most: i16, count: usize) -> Vec<i16> {
-    (0..count).map(|_| around_0(random, most)).collect()
-}
-
-/// At least so many characters, missing stop bits and lost carriers.
-fn assert_frequent(kinds: [usize; 3], least: [usize; 3]) {
-    let enough = (0..3).all(|kind| kinds[kind] >= least[kind]);
-    assert!(enough, "{kinds:?} is too rare for {least:?}");
 }
 
 /// The level is good often enough to begin, and hardly ever to the end.

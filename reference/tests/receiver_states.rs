@@ -1,7 +1,7 @@
 //! Blocks read on from any state in range.
 
 use crate::common::receiver::{compare_accepted, CARRIER_LOST, EVENTS, FRESH, NO_STOP_BIT, WINDOW};
-use crate::common::states::{any_samples, good_state, steps};
+use crate::common::states::{any_samples, byte_limit, good_state, longest_wait, steps};
 use crate::common::{sines, BANDS};
 use reference::library::Numbers;
 use reference::random::Random;
@@ -21,8 +21,8 @@ fn every_slot_and_wait() {
     for band in BANDS {
         let windows = windows(band);
         for slot in 0..=9_u8 {
-            for wait in 1..=if slot == 0 { 16 } else { 32 } {
-                let limit = if slot < 2 { 1 } else { 1 << (slot - 1) };
+            for wait in 1..=longest_wait(slot) {
+                let limit = byte_limit(slot);
                 for byte in [0, limit - 1, random.below(limit)] {
                     for window in windows {
                         for tone in windows {

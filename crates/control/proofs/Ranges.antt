@@ -23,6 +23,12 @@ use Rattle.control.specs.Rules.{runAfter, gathered, taken, nextOf, contr
 pub wait-low : (wait slot : ℕ) → isWait wait slot ≡ true → 1 ≤ wait
 wait-low wait slot h = leb-true 1 wait (and-elim-left (leb 1 wait) (leb wait (cond (eqb slot 0) 16 32)) h)
 
+pub wait-high : (wait slot : ℕ) → isWait wait slot ≡ true → wait ≤ 32
+wait-high wait slot h =
+    let most : ℕ = cond (eqb slot 0) 16 32 in
+    let l : most ≤ 32 = cond-case (λ (n : ℕ). n ≤ 32) (eqb slot 0) 16 32 (omega arith) (omega arith) in
+    omega (arith, leb-true wait most (and-elim-right (leb 1 wait) (leb wait most) h))
+
 wait-less : (wait slot : ℕ) → 1 < wait → isWait wait slot ≡ true → isWait (wait - 1) slot ≡ true
 wait-less wait slot h w =
     let most : ℕ = cond (eqb slot 0) 16 32 in
@@ -103,6 +109,10 @@ next-kept (Waiting wait slot byte) run d h =
 pub control-stage : (c : Control) → isControl c ≡ true → isStage (c .stage) ≡ true
 unfolding isControl
 control-stage c h = and-elim-right (leb (c .run) 32) (isStage (c .stage)) h
+
+pub control-run : (c : Control) → isControl c ≡ true → c .run ≤ 32
+unfolding isControl
+control-run c h = leb-true (c .run) 32 (and-elim-left (leb (c .run) 32) (isStage (c .stage)) h)
 
 run-kept : (run : ℕ) (good : Bool) → runAfter run good ≤ 32
 run-kept run good = cond-case (λ (n : ℕ). n ≤ 32) good (min (run + 1) 32) 0 (omega arith) (omega arith)

@@ -1,7 +1,7 @@
 -- The cases of the rules, each an equation under the tests that lead to it.
 -- Assumes nothing.
-use mathlib.Core.Path.{_≡_, refl}
-use mathlib.Core.Bool.{true, false, and-false, false≢true}
+use mathlib.Core.Path.{_≡_, refl, _∙_}
+use mathlib.Core.Bool.{Bool, true, false, and-false, Bool·beq}
 use Prim.Native.Nat.{ℕ, _+_, _-_, _<_, _≤_}
 use native.Mathlib.Omega.{arith}
 use borrow.Author.Tests.{le-leb, lt-leb, eq-eqb, ne-eqb}
@@ -9,11 +9,9 @@ use lib.Dec.{leb, eqb}
 use Rattle.integers.proofs.Tests.{cond-case}
 use Rattle.control.specs.declared.Decision.{Decision}
 use Rattle.control.specs.declared.Next.{Next}
-use Rattle.control.specs.declared.Stage.{Stage}
 use Rattle.control.specs.declared.Stage.the-variants.{Searching, Waiting}
-use Rattle.control.specs.Control.{Control, isStage}
-use Rattle.control.specs.Rules.{carrierLost, noStop, numbers, quiet, report, runAfter, gathered, taken, nextOf, isDue, goneOn, waitOver, controlAfter, reported}
-use Rattle.control.proofs.Ranges.{stage-slot}
+use Rattle.control.specs.Control.{Control, isSlot}
+use Rattle.control.specs.Rules.{carrierLost, noStop, numbers, quiet, report, runAfter, gathered, taken, nextOf, isFound, afterSearch, waitOver, controlAfter, reported}
 
 -- ---- the run
 
@@ -55,6 +53,10 @@ module _ (byte : ℕ) (d : Decision) where
 
 -- ---- the stage after a sample
 
+same-true : (b : Bool) → Bool·beq b true ≡ b
+same-true true = refl
+same-true false = refl
+
 module _ (run : ℕ) (d : Decision) where
   pub search-found : run ≡ 32 → d .space ≡ true → nextOf Searching run d ≡ quiet (Waiting 16 0 0)
   unfolding nextOf
@@ -78,15 +80,12 @@ module _ (run : ℕ) (d : Decision) where
     wait-taken e = rw e
 
   -- in the parts that the code has
-  pub gone-on : (stage : Stage) → isDue stage ≡ false → nextOf stage run d ≡ quiet (goneOn stage run d)
+  pub search-parts : nextOf Searching run d ≡ quiet (afterSearch (isFound true run d))
   unfolding nextOf
-  gone-on Searching e = refl
-  gone-on (Waiting wait slot byte) e = rw e
+  search-parts = rw (same-true (d .space))
 
-  pub wait-over : (stage : Stage) → isDue stage ≡ true → isStage stage ≡ true → nextOf stage run d ≡ waitOver stage d
-  unfolding nextOf
-  wait-over Searching e h = absurd (false≢true e)
-  wait-over (Waiting wait slot byte) e h = rw (e, stage-slot wait slot byte h)
+  pub wait-parts : (wait slot byte : ℕ) → wait ≡ 1 → isSlot slot byte ≡ true → nextOf (Waiting wait slot byte) run d ≡ waitOver (Waiting wait slot byte) d
+  wait-parts wait slot byte e h = wait-taken wait slot byte e ∙ rw h
 
 -- ---- run and stage after a decision, and its events
 

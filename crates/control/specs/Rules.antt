@@ -1,6 +1,7 @@
 -- What a decision does to run and stage, and its event: document 01, "Reader, step by step", rules 3 to 5, as decision 17 reads them.
 -- Assumes nothing.
-use mathlib.Core.Bool.{Bool, false, cond, not, _&&_}
+use mathlib.Core.Path.{_≡_}
+use mathlib.Core.Bool.{Bool, false, cond, not, _&&_, Bool·beq}
 use mathlib.Core.List.{List, [], _∷_}
 use Prim.Native.Nat.{ℕ, _+_, _-_, _^_, min}
 use lib.Dec.{leb, eqb}
@@ -76,15 +77,13 @@ nextOf (Waiting wait slot byte) run d = cond (eqb (wait - 1) 0) (taken slot byte
 
 -- ---- the same in parts, as the code has it
 
--- whether a wait ends with the sample; a search waits for nothing
-abbrev pub isDue : Stage → Bool
-isDue Searching = false
-isDue (Waiting wait slot byte) = eqb (wait - 1) 0
+-- a search ends with run 32 and space above mark, or not, as it asks
+abbrev pub isFound : Bool → ℕ → Decision → Bool
+isFound space run d = eqb run 32 && Bool·beq (d .space) space
 
--- the stage if none ends
-abbrev pub goneOn : Stage → ℕ → Decision → Stage
-goneOn Searching run d = searched run d
-goneOn (Waiting wait slot byte) run d = Waiting (wait - 1) slot byte
+-- what the search for a start comes to
+abbrev pub afterSearch : Bool → Stage
+afterSearch found = cond found (Waiting 16 0 0) Searching
 
 -- what a wait ends in; a slot out of its ranges, of which document 01 says nothing, is given up
 abbrev pub waitOver : Stage → Decision → Next
@@ -107,3 +106,14 @@ follow = after controlAfter
 
 abbrev pub reports : Control → List Decision → List ℕ
 reports = gives controlAfter reported
+
+-- ---- lists of decisions in parts, as the code has it
+
+-- the run after a list of them
+abbrev pub runOver : ℕ → List Decision → ℕ
+runOver = after (λ run d. runAfter run (d .good))
+
+-- none of them ends the search
+unfoldable pub NoneFound : Bool → ℕ → List Decision → Type 0
+NoneFound space run [] = Unit
+NoneFound space run (d ∷ ds) = (isFound space (runAfter run (d .good)) d ≡ false) × NoneFound space (runAfter run (d .good)) ds

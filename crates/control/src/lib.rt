@@ -1,9 +1,8 @@
 // What decisions do to a receiver: to its run and its stage, and which events they bring. How a window comes to its decision is
 // not known here. Every function takes every value of its types: a stage out of its ranges is given up when its wait ends.
 ghost use mathlib.Core.Path.{_≡_};
-ghost use Prim.Native.Nat.{_-_};
 ghost use Rattle.control.specs.Control.{isStage, isControl};
-ghost use Rattle.control.specs.Rules.{runAfter, searched, goneOn, isDue, waitOver};
+ghost use Rattle.control.specs.Rules.{isFound, afterSearch, waitOver};
 
 mod slot;
 
@@ -32,46 +31,18 @@ pub struct Next {
     pub event: Event,
 }
 
-// The run after a sample.
-pub fn run_after(run: u8, good: bool) -> u8
-    ensures { λ r. ⌜ r ≡ runAfter run good ⌝ }
+// A search ends: the carrier has stood for 32 samples, and space is above mark, or not, as the search asks.
+pub fn is_found(space: bool, run: usize, d: Decision) -> bool
+    ensures { λ r. ⌜ r ≡ isFound space run d ⌝ }
 {
-    if good {
-        if run < 32 { run + 1 } else { 32 }
-    } else {
-        0
-    }
+    run == 32 && d.space == space
 }
 
-// The wait ends with this sample.
-pub fn is_due(stage: Stage) -> bool
-    ensures { λ r. ⌜ r ≡ isDue stage ⌝ }
+// What a search for a start bit comes to: the middle of the bit is 16 samples away.
+pub fn search(found: bool) -> Stage
+    ensures { λ r. ⌜ r ≡ afterSearch found ⌝ }
 {
-    match stage {
-        Stage::Searching => false,
-        Stage::Waiting { wait, slot, byte } => wait < 2,
-    }
-}
-
-// The stage after a sample at which no wait ends, from the run after it. There is no event.
-pub fn go_on(stage: Stage, run: u8, d: Decision) -> Stage
-    ensures { λ r. ⌜ r ≡ goneOn stage run d ⌝ }
-{
-    match stage {
-        Stage::Searching => search(run, d),
-        Stage::Waiting { wait, slot, byte } => Stage::Waiting {
-            wait: one_less(wait),
-            slot,
-            byte,
-        },
-    }
-}
-
-// A start bit is looked for once the carrier has stood for 32 samples.
-fn search(run: u8, d: Decision) -> Stage
-    ensures { λ r. ⌜ r ≡ searched run d ⌝ }
-{
-    if run == 32 && d.space {
+    if found {
         Stage::Waiting {
             wait: 16,
             slot: 0,
@@ -80,12 +51,6 @@ fn search(run: u8, d: Decision) -> Stage
     } else {
         Stage::Searching
     }
-}
-
-fn one_less(wait: u8) -> u8
-    ensures { λ r. ⌜ r ≡ wait - 1 ⌝ }
-{
-    if wait == 0 { 0 } else { wait - 1 }
 }
 
 // The stage after a sample at which a wait ends, and the event. A search waits for nothing, and goes on.

@@ -7,8 +7,8 @@ use Prim.Native.Nat.{ℕ, zero, suc, _+_, _<_, _≤_, zero-le}
 use native.Mathlib.Numerals.{add-one}
 use native.Mathlib.Omega.{arith}
 use lib.IntN.{ℤ, pos, negℤ, natAbs, _+ℤ_, _*ℤ_, +ℤ-assoc, zero-*ℤ, negℤ-+ℤ}
-use lib.ListN.{length, getD, drop, replicate}
-use lib.Seq.{drop-cons}
+use lib.ListN.{length, getD, take, drop, replicate}
+use lib.Seq.{drop-cons, getD-drop}
 use Rattle.integers.specs.Sums.{dot, sumTo, Bounded}
 use Rattle.integers.proofs.Ring.{negℤ-*ℤ}
 use Rattle.integers.proofs.Size.{natAbs-negℤ}
@@ -73,6 +73,14 @@ module _ {n : ℕ} where
   pub bounded-append : (xs ys : List ℤ) → Bounded n xs → Bounded n ys → Bounded n (xs ++ ys)
   bounded-append [] ys b c = c
   bounded-append (x ∷ xs) ys b c = bounded-more (b .at 0) (bounded-append xs ys (bounded-rest b) c)
+
+  pub bounded-take : (m : ℕ) {xs : List ℤ} → Bounded n xs → Bounded n (take m xs)
+  bounded-take zero b = bounded-none
+  bounded-take (suc m) {xs = []} b = bounded-none
+  bounded-take (suc m) {xs = x ∷ xs} b = bounded-more (b .at 0) (bounded-take m (bounded-rest b))
+
+  pub bounded-drop : (m : ℕ) {xs : List ℤ} → Bounded n xs → Bounded n (drop m xs)
+  bounded-drop m {xs} b = record { at = λ k. rw (getD-drop m xs k (pos 0)) (b .at (m + k)) }
 
 pub bounded-zeros : (n m : ℕ) → Bounded n (replicate m (pos 0))
 bounded-zeros n zero = bounded-none

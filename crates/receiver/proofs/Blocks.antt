@@ -1,34 +1,37 @@
--- An accepted block: judging the windows of the head, and then those of the block itself, reads the block as the step rule does. From
--- the step rule by windows, their seam, and the bound on events.
+-- An accepted block: the decisions at the windows of the head and of the block are those that the samples make by the step rule. From
+-- the step rule by windows and the bound on events.
 -- Assumes nothing.
 use mathlib.Core.Path.{_≡_, sym, ap, _∙_}
 use mathlib.Core.Bool.{true}
 use mathlib.Core.List.{List, _++_}
 use mathlib.Mathlib.Data.Bool.Basic.{and-intro}
-use Prim.Native.Nat.{ℕ, _+_, _-_, _≤_, min}
-use native.Mathlib.Nat.{zero-add}
+use Prim.Native.Nat.{ℕ, _+_, _-_, _<_, _≤_, min}
 use native.Mathlib.Omega.{arith}
 use borrow.Author.Tests.{lt-ltb, le-ltb}
 use lib.IntN.{ℤ}
-use lib.ListN.{length, take, drop}
-use lib.Seq.{sets, take-all, drop-append-le, drop-append-add}
+use lib.ListN.{length, take, drop, length-drop}
+use lib.Seq.{sets, take-all, take-at, take-take, drop-drop, take-append-add, drop-append-le, drop-append-add}
 use Rattle.integers.proofs.Tests.{lt-or-le}
 use Rattle.integers.proofs.Lists.{sets-front, drop-take}
 use Rattle.calls.specs.Outcome.{outcome, accepted}
+use Rattle.sine.specs.Wave.{weightsOf}
 use Rattle.tones.specs.Bands.{tonesOf}
 use Rattle.tones.specs.Samples.{areSamples}
-use Rattle.tones.proofs.Samples.{samples-append, samples-take, samples-drop}
+use Rattle.tones.proofs.Samples.{samples-append, samples-drop}
 use Rattle.control.specs.declared.Decision.{Decision}
-use Rattle.control.specs.Rules.{follow, reports}
+use Rattle.control.specs.Control.{Control}
+use Rattle.control.specs.Rules.{reports}
 use Rattle.receiver.specs.declared.Progress.{Progress}
 use Rattle.receiver.specs.declared.Receiver.{Receiver}
-use Rattle.receiver.specs.Energy.{decisionOf}
+use Rattle.receiver.specs.Energy.{decisionBy}
 use Rattle.receiver.specs.Step.{controlOf, stateAfter, eventsAfter}
-use Rattle.receiver.specs.Windows.{decisionsOf, controlIn, progressed, lastWindow}
+use Rattle.receiver.specs.Windows.{decisions, progressed, lastWindow}
+use Rattle.receiver.specs.Places.{recorded, IsSource, decisionsBy}
 use Rattle.receiver.specs.Calls.{inRange, placesFor}
+use Rattle.receiver.proofs.Energies.{decision-by, bank-of}
 use Rattle.receiver.proofs.Ranges.{in-range}
 use Rattle.receiver.proofs.Counting.{events-few}
-use Rattle.receiver.proofs.Windows.{decisions-seam, decisionsOver, by-windows, band-after, window-after}
+use Rattle.receiver.proofs.Windows.{decisionsOver, by-windows, band-after, window-after}
 
 -- ---- a block that is accepted
 
@@ -41,28 +44,59 @@ pub record Accepted (s : Receiver) (xs : List ℤ) (lent : List ℕ) : Type 0 wh
 -- its head: the window, with the first n samples behind it
 pub record Head (s : Receiver) (xs : List ℤ) (n : ℕ) (head : List ℤ) : Type 0 where
   pub cut : n ≡ min (length xs) 31
+  pub long : length head ≡ 64
   pub whole : take (32 + n) head ≡ s .window ++ take n xs
 
-module _ {s : Receiver} {xs : List ℤ} {lent : List ℕ} {n : ℕ} {head : List ℤ} (a : Accepted s xs lent) (h : Head s xs n head) where
-  -- the part of the head that is scanned
-  abbrev source : List ℤ
-  source = take (32 + n - 1) (drop 1 head)
+-- two lists that begin alike
+same-front : (k m : ℕ) (xs ys : List ℤ) → take m xs ≡ take m ys → k ≤ m → take k xs ≡ take k ys
+same-front k m xs ys e h = sym (take-take k m xs h) ∙ ap (take k) e ∙ take-take k m ys h
 
-  source-is : source ≡ drop 1 (s .window) ++ take n xs
-  source-is =
-      let e : 32 + n - 1 ≡ 31 + n = omega arith in
-      let f : 1 + (31 + n) ≡ 32 + n = omega arith in
-      ap (λ (k : ℕ). take k (drop 1 head)) e
-      ∙ sym (drop-take 1 (31 + n) head)
-      ∙ ap (λ (k : ℕ). drop 1 (take k head)) f
+module _ {s : Receiver} {xs : List ℤ} {lent : List ℕ} {n : ℕ} {head : List ℤ} (a : Accepted s xs lent) (h : Head s xs n head) where
+  -- the last 31 samples before the block, and with the block
+  abbrev old : List ℤ
+  old = drop 1 (s .window)
+
+  abbrev all : List ℤ
+  all = old ++ xs
+
+  old-long : length old ≡ 31
+  old-long = omega (arith, length-drop 1 (s .window), a .long)
+
+  -- behind its first sample the head begins as they do
+  head-all : take (31 + n) (drop 1 head) ≡ take (31 + n) all
+  head-all =
+      let e : 1 + (31 + n) ≡ 32 + n = omega arith in
+      sym (drop-take 1 (31 + n) head)
+      ∙ ap (λ (k : ℕ). drop 1 (take k head)) e
       ∙ ap (drop 1) (h .whole)
       ∙ drop-append-le 1 (s .window) (take n xs) (rw (a .long) (omega arith))
+      ∙ sym (rw old-long at (take-append-add old xs n))
 
-  pub source-samples : areSamples source ≡ true
-  source-samples =
-      ap areSamples source-is
-      ∙ samples-append (drop 1 (s .window)) (take n xs)
-      ∙ and-intro (samples-drop 1 (s .window) (in-range s (a .range) .window)) (samples-take n xs (a .samples))
+  recorded-all : recorded head xs ≡ all
+  recorded-all = ap (λ (l : List ℤ). l ++ xs) (same-front 31 (31 + n) (drop 1 head) all head-all (omega arith) ∙ take-at old xs 31 old-long)
+
+  all-samples : areSamples all ≡ true
+  all-samples = samples-append old xs ∙ and-intro (samples-drop 1 (s .window) (in-range s (a .range) .window)) (a .samples)
+
+  begun : (i : ℕ) → i < 31 → i < length xs → take 32 (drop (i + 1) head) ≡ take 32 (drop i (recorded head xs))
+  begun i b l =
+      let e : i + 1 ≡ 1 + i = omega arith in
+      ap (λ (k : ℕ). take 32 (drop k head)) e
+      ∙ ap (take 32) (sym (drop-drop i 1 head))
+      ∙ sym (drop-take i 32 (drop 1 head))
+      ∙ ap (drop i) (same-front (i + 32) (31 + n) (drop 1 head) all head-all (omega (arith, h .cut)))
+      ∙ drop-take i 32 all
+      ∙ ap (λ (l : List ℤ). take 32 (drop i l)) (sym recorded-all)
+
+  module _ (weights : List ℤ) (e : weights ≡ weightsOf (tonesOf (s .band) .space) (tonesOf (s .band) .mark)) where
+    pub block-source : IsSource weights head xs
+    block-source =
+        record { bank = rw e (bank-of (tonesOf (s .band))); inside = ap areSamples recorded-all ∙ all-samples; long = h .long; begun = begun }
+
+    pub block-decisions : decisionsBy weights head xs ≡ decisionsOver s xs
+    block-decisions =
+        ap (decisions (decisionBy weights)) recorded-all
+        ∙ ap (λ (by : List ℤ → Decision). decisions by all) (ap decisionBy e ∙ decision-by (tonesOf (s .band)))
 
   last-is : lastWindow head xs ≡ stateAfter s xs .window
   last-is =
@@ -82,36 +116,22 @@ module _ {s : Receiver} {xs : List ℤ} {lent : List ℕ} {n : ℕ} {head : List
 
   -- ---- by the decisions at its windows
 
-  abbrev judged : List Decision
-  judged = decisionsOf (s .band) source ++ decisionsOf (s .band) xs
+  pub block-room : length (reports (controlOf s) (decisionsOver s xs)) ≤ length lent
+  block-room = omega (arith, events-few s xs (a .range), a .room, ap length (by-windows s xs (a .long) .events))
 
-  seam : decisionsOver s xs ≡ judged
-  seam =
-      decisions-seam (decisionOf (tonesOf (s .band))) (drop 1 (s .window)) xs n (h .cut)
-      ∙ ap (λ (l : List ℤ). decisionsOf (s .band) l ++ decisionsOf (s .band) xs) (sym source-is)
+  module _ (q : Progress) (eq : q ≡ progressed (controlOf s) (decisionsOver s xs)) (events : List ℕ)
+      (ee : events ≡ sets lent 0 (reports (controlOf s) (decisionsOver s xs))) (window : List ℤ) (ew : window ≡ lastWindow head xs) where
+    told : eventsAfter s xs ≡ reports (controlOf s) (decisionsOver s xs)
+    told = by-windows s xs (a .long) .events
 
-  whole-control : controlOf (stateAfter s xs) ≡ follow (controlOf s) judged
-  whole-control = by-windows s xs (a .long) .control ∙ ap (follow (controlOf s)) seam
-
-  whole-events : eventsAfter s xs ≡ reports (controlOf s) judged
-  whole-events = by-windows s xs (a .long) .events ∙ ap (reports (controlOf s)) seam
-
-  pub whole-room : 0 + length (reports (controlOf s) judged) ≤ length lent
-  whole-room = omega (arith, events-few s xs (a .range), a .room, ap length whole-events)
-
-  abbrev first : Progress
-  first = record { run = s .run; stage = s .stage; count = 0 }
-
-  module _ (q : Progress) (eq : q ≡ progressed first judged) (events : List ℕ) (ee : events ≡ sets lent 0 (reports (controlOf s) judged))
-      (window : List ℤ) (ew : window ≡ lastWindow head xs) where
-    q-control : controlIn q ≡ controlOf (stateAfter s xs)
-    q-control = ap controlIn eq ∙ sym whole-control
+    q-control : _≡_ {A = Control} (record { run = q .run; stage = q .stage }) (controlOf (stateAfter s xs))
+    q-control = ap (λ (u : Progress). record { run = u .run; stage = u .stage }) eq ∙ sym (by-windows s xs (a .long) .control)
 
     q-count : q .count ≡ length (eventsAfter s xs)
-    q-count = ap (λ (u : Progress). u .count) eq ∙ zero-add (length (reports (controlOf s) judged)) ∙ ap length (sym whole-events)
+    q-count = ap (λ (u : Progress). u .count) eq ∙ ap length (sym told)
 
     stored : events ≡ eventsAfter s xs ++ drop (length (eventsAfter s xs)) lent
-    stored = ee ∙ ap (sets lent 0) (sym whole-events) ∙ sets-front (eventsAfter s xs) lent (omega (arith, whole-room, ap length whole-events))
+    stored = ee ∙ ap (sets lent 0) (sym told) ∙ sets-front (eventsAfter s xs) lent (omega (arith, block-room, ap length told))
 
     pub block-read : outcome (record { number = 0; count = q .count }) (record { band = s .band; window = window; run = q .run; stage = q .stage }) events
         ≡ accepted (stateAfter s xs) (eventsAfter s xs) lent

@@ -2,22 +2,24 @@
 -- Assumes nothing.
 use mathlib.Core.Path.{_≡_, sym, ap, ap₂, _∙_}
 use mathlib.Core.List.{List}
-use Prim.Native.Nat.{ℕ, _+_, _*_, max}
+use Prim.Native.Nat.{ℕ, _+_, _*_, _<_, max}
 use native.Mathlib.Nat.{zero-add, add-comm}
 use native.Mathlib.Omega.{arith}
 use borrow.Author.Tests.{lt-ltb, le-ltb}
 use lib.Dec.{ltb, leb}
 use lib.IntN.{ℤ, pos, _+ℤ_, _*ℤ_}
-use lib.ListN.{getD}
+use lib.ListN.{getD, drop, length-drop}
+use lib.Seq.{length-take-le}
 use Rattle.integers.specs.Sums.{dot, sumTo}
 use Rattle.integers.proofs.Tests.{lt-or-le}
 use Rattle.integers.proofs.Size.{square}
-use Rattle.integers.proofs.Sums.{sumTo-same, sumTo-dot, products}
+use Rattle.integers.proofs.Sums.{sumTo-same, sumTo-dot, products, bounded-take, bounded-drop}
 use Rattle.sine.specs.Sine.{S, C}
-use Rattle.sine.specs.Wave.{wave}
+use Rattle.sine.specs.Wave.{wave, weightsOf}
 use Rattle.sine.proofs.Wave.{length-wave, wave-at}
+use Rattle.sine.proofs.Parts.{length-weights, weights-bound, weights-parts}
 use Rattle.tones.specs.declared.Tones.{Tones}
-use Rattle.receiver.specs.Energy.{inPhase, quadrature, energy, energyℕ, level, decided, decisionOf, energyBy, decisionBy}
+use Rattle.receiver.specs.Energy.{inPhase, quadrature, energy, energyℕ, level, decided, decisionOf, AreWeights, energyBy, IsBank, kind, decisionBy}
 
 -- ---- by lists of weights
 
@@ -40,9 +42,24 @@ energy-by : (window : List ℤ) (t : ℕ) → energyBy (wave 32 t 480) (wave 32 
 unfolding energy
 energy-by window t = rw (in-phase-dot window t, quadrature-dot window t)
 
-pub decision-by : (t : Tones) → decisionBy (wave 32 (t .space) 480) (wave 32 (t .space) 0) (wave 32 (t .mark) 480) (wave 32 (t .mark) 0) ≡ decisionOf t
+pub decision-by : (t : Tones) → decisionBy (weightsOf (t .space) (t .mark)) ≡ decisionOf t
 unfolding decisionOf
-decision-by t i window = decided (energy-by window (t .space) i) (energy-by window (t .mark) i)
+decision-by t i window =
+    let w = weights-parts (t .space) (t .mark) in
+    decided
+    (((λ j. energyBy (w .first-cosines j) (w .first-sines j) window) ∙ energy-by window (t .space)) i)
+    (((λ j. energyBy (w .second-cosines j) (w .second-sines j) window) ∙ energy-by window (t .mark)) i)
+
+pub bank-of : (t : Tones) → IsBank (weightsOf (t .space) (t .mark))
+bank-of t = record { long = length-weights (t .space) (t .mark); small = weights-bound (t .space) (t .mark) }
+
+-- each of the four lists of a bank
+pub kind-weights : (k : ℕ) → k < 4 → {ws : List ℤ} → IsBank ws → AreWeights (kind k ws)
+kind-weights k h {ws} b =
+    record {
+      long = length-take-le 32 (drop (32 * k) ws) (omega (arith, length-drop (32 * k) ws, b .long));
+      small = bounded-take 32 (bounded-drop (32 * k) (b .small));
+    }
 
 -- ---- as natural numbers
 

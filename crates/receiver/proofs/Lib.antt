@@ -3,6 +3,8 @@ pub mod Correlation
 pub mod Ranges
 pub mod Counting
 pub mod Windows
+pub mod Places
+pub mod Onward
 pub mod Scanning
 pub mod Heads
 pub mod Blocks

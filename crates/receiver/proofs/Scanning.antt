@@ -1,192 +1,162 @@
--- A source that is scanned window by window: what holds before each window, and at the end. From the decisions of a list and the
--- laws of a buffer being filled.
+-- The windows of a block, and the reading of them from place to place: what holds at each place, and at the end. From the decisions of
+-- a list, the laws of places and those of a buffer being filled.
 -- Assumes nothing.
-use mathlib.Core.Path.{_≡_, refl, sym, ap, _∙_}
-use mathlib.Core.Bool.{true}
-use mathlib.Core.List.{List, [], _∷_, _++_}
+use mathlib.Core.Path.{_≡_, sym, ap, _∙_}
+use mathlib.Core.Bool.{true, false}
+use mathlib.Core.List.{List, [], _++_}
 use Prim.Native.Nat.{ℕ, _+_, _-_, _<_, _≤_, zero-le}
 use native.Mathlib.Omega.{arith}
 use lib.IntN.{ℤ}
-use lib.ListN.{length, take, drop, length-append, length-drop, length-take}
-use lib.Seq.{sets, length-sets, drop-drop}
-use Rattle.integers.proofs.Lists.{sets-append}
+use lib.ListN.{length, take, drop, length-append, length-drop, drop-of-length-le}
+use lib.Seq.{sets, length-take-le, drop-append-add}
 use Rattle.calls.specs.Runs.{after, gives}
 use Rattle.calls.proofs.Runs.{run-laws}
 use Rattle.calls.proofs.Filling.{Filling, filling-start, filling-more, filling-end}
-use Rattle.tones.specs.Samples.{areSamples}
 use Rattle.tones.proofs.Samples.{samples-take, samples-drop}
 use Rattle.control.specs.declared.Decision.{Decision}
-use Rattle.control.specs.declared.Next.{Next}
+use Rattle.control.specs.declared.Stage.{Stage}
 use Rattle.control.specs.Control.{Control, isControl}
-use Rattle.control.specs.Rules.{numbers, runAfter, nextOf, controlAfter, reported, follow, reports}
-use Rattle.control.proofs.Rules.{control-after, events-reported}
-use Rattle.control.proofs.Ranges.{control-kept, follow-kept}
+use Rattle.control.specs.Rules.{numbers, controlAfter, reported, follow, reports}
+use Rattle.control.proofs.Ranges.{control-run, follow-kept}
+use Rattle.receiver.specs.declared.Place.{Place}
 use Rattle.receiver.specs.declared.Progress.{Progress}
-use Rattle.receiver.specs.Energy.{IsWindow}
-use Rattle.receiver.specs.Windows.{decisions, controlIn, advanced, progressed}
-use Rattle.receiver.proofs.Windows.{decisions-none, decisions-more}
+use Rattle.receiver.specs.declared.Turn.{Turn}
+use Rattle.receiver.specs.Energy.{IsWindow, decisionBy}
+use Rattle.receiver.specs.Windows.{progressed}
+use Rattle.receiver.specs.Places.{recorded, IsSource, decisionsBy, judged, between, IsPlace, runAt, controlAt, exactly, Onward}
+use Rattle.receiver.proofs.Windows.{length-decisions, decisions-at}
+use Rattle.receiver.proofs.Places.{between-rest, place-exact, run-exact}
 
--- ---- one decision, in the parts that the code has: the run, and the next stage with its event
+-- ---- the windows of a block
 
-module _ (p : Progress) (d : Decision) (run : ℕ) (n : Next) (er : run ≡ runAfter (p .run) (d .good)) (en : n ≡ nextOf (p .stage) run d) where
-  pub event-reported : reported (controlIn p) d ≡ numbers (n .event)
-  event-reported = events-reported (controlIn p) d run n er en
+module _ {weights head xs : List ℤ} (s : IsSource weights head xs) where
+  before : length (take 31 (drop 1 head)) ≡ 31
+  before = length-take-le 31 (drop 1 head) (omega (arith, length-drop 1 head, s .long))
 
-  pub decision-followed : (count : ℕ) → count ≡ p .count + length (numbers (n .event)) → (lent events : List ℕ) → events ≡ sets lent (p .count) (numbers (n .event))
-      → (record { run = run; stage = n .stage; count = count } ≡ advanced p d) × (events ≡ sets lent (p .count) (reported (controlIn p) d))
-  decision-followed count ec lent events ee =
-      let moved : controlAfter (controlIn p) d ≡ record { run = run; stage = n .stage } = control-after (controlIn p) d run n er en in
-      let counted : p .count + length (reported (controlIn p) d) ≡ count = ap (λ (l : List ℕ). p .count + length l) event-reported ∙ sym ec in (
-        sym (λ i. record { run = moved i .run; stage = moved i .stage; count = counted i }),
-        ee ∙ ap (sets lent (p .count)) (sym event-reported),
-      )
+  recorded-long : length (recorded head xs) ≡ 31 + length xs
+  recorded-long = length-append (take 31 (drop 1 head)) xs ∙ ap (λ (n : ℕ). n + length xs) before
 
--- ---- window by window
+  -- one ends with each sample
+  pub window-each : length (decisionsBy weights head xs) ≡ length xs
+  window-each = omega (arith, length-decisions (decisionBy weights) (recorded head xs), recorded-long)
 
--- the part of the source that the code lends at k
-abbrev part : List ℤ → ℕ → List ℤ
-part source k = take (k + 32 - k) (drop k source)
+  module _ (i : ℕ) (l : i < length xs) (window : List ℤ) (e : window ≡ take 32 (drop i (recorded head xs))) where
+    pub window-is : IsWindow window
+    window-is =
+        rw e
+        (record {
+          long = length-take-le 32 (drop i (recorded head xs)) (omega (arith, length-drop i (recorded head xs), recorded-long));
+          samples = samples-take 32 (drop i (recorded head xs)) (samples-drop i (recorded head xs) (s .inside));
+        })
 
-part-32 : (source : List ℤ) (k : ℕ) → part source k ≡ take 32 (drop k source)
-part-32 source k = let e : k + 32 - k ≡ 32 = omega arith in ap (λ (n : ℕ). take n (drop k source)) e
+    pub window-judged : decisionBy weights window ≡ judged (decisionsBy weights head xs) i
+    window-judged =
+        ap (decisionBy weights) e
+        ∙ sym (decisions-at (decisionBy weights) i (recorded head xs) (record { good = false; space = false }) (omega (arith, recorded-long)))
 
-pub part-window : (source : List ℤ) (k : ℕ) → k + 32 ≤ length source → areSamples source ≡ true
-    → IsWindow (part source k)
-part-window source k h samples =
-    record {
-      long = simp (length-take, length-drop) (omega arith);
-      samples = samples-take (k + 32 - k) (drop k source) (samples-drop k source samples);
-    }
+  -- where the code finds it: in the head, or in the block
+  pub window-begun : (i : ℕ) → i < 31 → i < length xs → take (i + 33 - (i + 1)) (drop (i + 1) head) ≡ take 32 (drop i (recorded head xs))
+  window-begun i h l = let e : i + 33 - (i + 1) ≡ 32 = omega arith in ap (λ (n : ℕ). take n (drop (i + 1) head)) e ∙ s .begun i h l
 
-module _ (decide : List ℤ → Decision) (source : List ℤ) (lent : List ℕ) (p : Progress) where
-  -- what is still to be reported, from a run and a stage before window k
-  abbrev rest : Control → ℕ → List ℕ
-  rest c k = reports c (decisions decide (drop k source))
+  pub window-whole : (i : ℕ) → 31 ≤ i → take (i + 1 - (i - 31)) (drop (i - 31) xs) ≡ take 32 (drop i (recorded head xs))
+  window-whole i h =
+      let e : i + 1 - (i - 31) ≡ 32 = omega arith in
+      let f : i ≡ 31 + (i - 31) = omega arith in
+      ap (λ (n : ℕ). take n (drop (i - 31) xs)) e
+      ∙ sym (ap (λ (n : ℕ). take 32 (drop n (recorded head xs))) f ∙ ap (take 32) (rw before at (drop-append-add (take 31 (drop 1 head)) xs (i - 31))))
 
-  -- before window k the progress is `now`, and the events so far stand in `events`
-  pub record Scanning (events : List ℕ) (now : Progress) (k : ℕ) : Type 0 where
-    pub inside : k ≤ length source
-    pub control : isControl (controlIn now) ≡ true
-    pub reached : follow (controlIn now) (decisions decide (drop k source)) ≡ follow (controlIn p) (decisions decide source)
-    pub filled : Filling lent (p .count) (reports (controlIn p) (decisions decide source)) events (now .count) (rest (controlIn now) k)
-    pub counted : now .count + length (rest (controlIn now) k) ≡ p .count + length (reports (controlIn p) (decisions decide source))
+-- ---- from place to place
 
-  pub scanning-start : isControl (controlIn p) ≡ true → Scanning lent p 0
-  scanning-start h =
-      record {
-        inside = zero-le;
-        control = h;
-        reached = refl;
-        filled = filling-start lent (p .count) (reports (controlIn p) (decisions decide source));
-        counted = refl;
-      }
+module _ (ds : List Decision) (lent : List ℕ) (c : Control) where
+  -- what is still to be reported, from a place on
+  abbrev rest : Place → Stage → List ℕ
+  rest at stage = reports (controlAt ds at stage) (drop (at .next) ds)
 
-  module _ {events : List ℕ} {now : Progress} {k : ℕ} (s : Scanning events now k) where
-    -- one window
-    module _ (h : k + 32 ≤ length source) (d : Decision) (ed : d ≡ decide (part source k)) where
-      abbrev more : List ℕ
-      more = rest (controlAfter (controlIn now) d) (k + 1)
+  -- the reading has come to this place and this stage, and the events so far stand in `events`
+  pub record Scanning (events : List ℕ) (at : Place) (stage : Stage) (count : ℕ) : Type 0 where
+    pub place : IsPlace ds at
+    pub control : isControl (controlAt ds at stage) ≡ true
+    pub reached : follow (controlAt ds at stage) (drop (at .next) ds) ≡ follow c ds
+    pub filled : Filling lent 0 (reports c ds) events count (rest at stage)
+    pub counted : count + length (rest at stage) ≡ length (reports c ds)
 
-      next : decisions decide (drop k source) ≡ d ∷ decisions decide (drop (k + 1) source)
-      next =
-          decisions-more decide (drop k source) (omega (arith, length-drop k source))
-          ∙ ap (λ (e : Decision). e ∷ decisions decide (drop 1 (drop k source))) (sym (ed ∙ ap decide (part-32 source k)))
-          ∙ ap (λ (l : List ℤ). d ∷ decisions decide l) (drop-drop 1 k source)
+  pub scanning-start : isControl c ≡ true → (at : Place) → at ≡ exactly 0 (c .run) → Scanning lent at (c .stage) 0
+  scanning-start h at q =
+      let e : controlAt ds (exactly 0 (c .run)) (c .stage) ≡ c = (λ i. record { run = run-exact ds 0 (c .run) i; stage = c .stage }) in
+      rw q
+      (record {
+        place = place-exact ds 0 (c .run) zero-le (control-run c h);
+        control = ap isControl e ∙ h;
+        reached = ap (λ (u : Control). follow u ds) e;
+        filled = rw e (filling-start lent 0 (reports c ds));
+        counted = omega (arith, ap (λ (u : Control). length (reports u ds)) e);
+      })
 
-      reached-next : follow (controlAfter (controlIn now) d) (decisions decide (drop (k + 1) source)) ≡ follow (controlIn now) (decisions decide (drop k source))
-      unfolding after
-      reached-next = sym (ap (follow (controlIn now)) next)
+  module _ {events : List ℕ} {at : Place} {stage : Stage} {count : ℕ} (s : Scanning events at stage count) where
+    -- read on
+    module _ (t : Turn) (o : Onward ds at stage t) where
+      abbrev here : Control
+      here = controlAt ds at stage
 
-      rest-next : rest (controlIn now) k ≡ reported (controlIn now) d ++ more
-      unfolding gives
-      rest-next = ap (reports (controlIn now)) next
+      abbrev gone : List Decision
+      gone = between (at .next) (t .place .next) ds
 
-      count-next : length (rest (controlIn now) k) ≡ length (reported (controlIn now) d) + length more
-      count-next = ap length rest-next ∙ length-append (reported (controlIn now) d) more
+      abbrev left : List Decision
+      left = drop (t .place .next) ds
 
-      pub scanning-room : p .count + length (reports (controlIn p) (decisions decide source)) ≤ length lent
-          → now .count + length (reported (controlIn now) d) ≤ length events
+      parts : drop (at .next) ds ≡ gone ++ left
+      parts = between-rest ds (at .next) (t .place .next) (omega (arith, o .later))
+
+      reached-next : follow (controlAt ds (t .place) (t .stage)) left ≡ follow here (drop (at .next) ds)
+      reached-next =
+          sym
+          (ap (follow here) parts
+          ∙ run-laws controlAfter reported .after-append here gone left
+          ∙ ap (λ (u : Control). follow u left) (o .control))
+
+      rest-next : rest at stage ≡ numbers (t .event) ++ rest (t .place) (t .stage)
+      rest-next =
+          ap (reports here) parts
+          ∙ run-laws controlAfter reported .gives-append here gone left
+          ∙ (λ i. o .events i ++ reports (o .control i) left)
+
+      count-next : length (rest at stage) ≡ length (numbers (t .event)) + length (rest (t .place) (t .stage))
+      count-next = ap length rest-next ∙ length-append (numbers (t .event)) (rest (t .place) (t .stage))
+
+      pub scanning-room : length (reports c ds) ≤ length lent → count + length (numbers (t .event)) ≤ length events
       scanning-room room = omega (arith, count-next, s .counted, s .filled .long)
 
-      pub scanning-more : (events′ : List ℕ) (now′ : Progress) → now′ ≡ advanced now d → events′ ≡ sets events (now .count) (reported (controlIn now) d)
-          → Scanning events′ now′ (k + 1)
-      scanning-more events′ now′ en ee =
+      pub scanning-more : (events′ : List ℕ) (count′ : ℕ) → count′ ≡ count + length (numbers (t .event)) → events′ ≡ sets events count (numbers (t .event))
+          → Scanning events′ (t .place) (t .stage) count′
+      scanning-more events′ count′ en ee =
           rw (en, ee)
           (record {
-            inside = omega arith;
-            control = control-kept (controlIn now) d (s .control);
+            place = o .place;
+            control = sym (ap isControl (o .control)) ∙ follow-kept here gone (s .control);
             reached = reached-next ∙ s .reached;
-            filled = filling-more (reported (controlIn now) d) more (rw rest-next at (s .filled));
+            filled = filling-more (numbers (t .event)) (rest (t .place) (t .stage)) (rw rest-next at (s .filled));
             counted = omega (arith, count-next, s .counted);
           })
 
     -- no window is left
-    module _ (h : length source < k + 32) where
-      last : decisions decide (drop k source) ≡ []
-      last = decisions-none decide (drop k source) (omega (arith, length-drop k source))
+    module _ (h : length ds ≤ at .next) where
+      last : drop (at .next) ds ≡ []
+      last = drop-of-length-le ds {i = at .next} h
 
-      gone : rest (controlIn now) k ≡ []
+      nothing : rest at stage ≡ []
       unfolding gives
-      gone = ap (reports (controlIn now)) last
+      nothing = ap (reports (controlAt ds at stage)) last
 
-      at-end : controlIn now ≡ follow (controlIn p) (decisions decide source)
+      at-end : controlAt ds at stage ≡ follow c ds
       unfolding after
-      at-end = sym (ap (follow (controlIn now)) last) ∙ s .reached
+      at-end = sym (ap (follow (controlAt ds at stage)) last) ∙ s .reached
 
-      counted-end : now .count ≡ p .count + length (reports (controlIn p) (decisions decide source))
-      counted-end = omega (arith, ap length gone, s .counted)
+      counted-end : count ≡ length (reports c ds)
+      counted-end = omega (arith, ap length nothing, s .counted)
 
-      pub scanning-end : (now ≡ progressed p (decisions decide source)) × (events ≡ sets lent (p .count) (reports (controlIn p) (decisions decide source)))
-      scanning-end = (
-        (λ i. record { run = at-end i .run; stage = at-end i .stage; count = counted-end i }),
-        filling-end (rw gone at (s .filled)),
-      )
-
--- ---- two lists of decisions, one scanned behind the other
-
-module _ (p : Progress) (ds es : List Decision) where
-  control-joined : follow (controlIn p) (ds ++ es) ≡ follow (follow (controlIn p) ds) es
-  control-joined = run-laws controlAfter reported .after-append (controlIn p) ds es
-
-  reports-joined : reports (controlIn p) (ds ++ es) ≡ reports (controlIn p) ds ++ reports (follow (controlIn p) ds) es
-  reports-joined = run-laws controlAfter reported .gives-append (controlIn p) ds es
-
-  count-joined : length (reports (controlIn p) (ds ++ es)) ≡ length (reports (controlIn p) ds) + length (reports (follow (controlIn p) ds) es)
-  count-joined = ap length reports-joined ∙ length-append (reports (controlIn p) ds) (reports (follow (controlIn p) ds) es)
-
-  pub first-room : (lent : List ℕ) → p .count + length (reports (controlIn p) (ds ++ es)) ≤ length lent → p .count + length (reports (controlIn p) ds) ≤ length lent
-  first-room lent room = omega (arith, count-joined)
-
-  -- behind the first
-  module _ (lent : List ℕ) (q : Progress) (eq : q ≡ progressed p ds) (events : List ℕ) (ee : events ≡ sets lent (p .count) (reports (controlIn p) ds)) where
-    q-control : controlIn q ≡ follow (controlIn p) ds
-    q-control = ap controlIn eq
-
-    q-count : q .count ≡ p .count + length (reports (controlIn p) ds)
-    q-count = ap (λ (u : Progress). u .count) eq
-
-    q-reports : reports (controlIn q) es ≡ reports (follow (controlIn p) ds) es
-    q-reports = ap (λ (c : Control). reports c es) q-control
-
-    pub second-control : isControl (controlIn p) ≡ true → isControl (controlIn q) ≡ true
-    second-control h = ap isControl q-control ∙ follow-kept (controlIn p) ds h
-
-    pub second-room : p .count + length (reports (controlIn p) (ds ++ es)) ≤ length lent → q .count + length (reports (controlIn q) es) ≤ length events
-    second-room room = omega (arith, q-count, ap length q-reports, count-joined, ap length ee, length-sets lent (p .count) (reports (controlIn p) ds))
-
-    -- behind the second
-    module _ (r : Progress) (er : r ≡ progressed q es) (events′ : List ℕ) (ee′ : events′ ≡ sets events (q .count) (reports (controlIn q) es)) where
-      r-control : controlIn r ≡ follow (controlIn p) (ds ++ es)
-      r-control = ap controlIn er ∙ ap (λ (c : Control). follow c es) q-control ∙ sym control-joined
-
-      r-count : r .count ≡ p .count + length (reports (controlIn p) (ds ++ es))
-      r-count = omega (arith, ap (λ (u : Progress). u .count) er, q-count, ap length q-reports, count-joined)
-
-      pub both-scanned : (r ≡ progressed p (ds ++ es)) × (events′ ≡ sets lent (p .count) (reports (controlIn p) (ds ++ es)))
-      both-scanned = (
-        (λ i. record { run = r-control i .run; stage = r-control i .stage; count = r-count i }),
-        ee′
-            ∙ (λ i. sets (ee i) (q-count i) (q-reports i))
-            ∙ sym (sets-append lent (p .count) (reports (controlIn p) ds) (reports (follow (controlIn p) ds) es))
-            ∙ ap (sets lent (p .count)) (sym reports-joined),
+      pub scanning-end : (run : ℕ) → run ≡ runAt ds at
+          → (_≡_ {A = Progress} (record { run = run; stage = stage; count = count }) (progressed c ds)) × (events ≡ sets lent 0 (reports c ds))
+      scanning-end run e = (
+        (λ i. record { run = (e ∙ ap (λ (u : Control). u .run) at-end) i; stage = at-end i .stage; count = counted-end i }),
+        filling-end (rw nothing at (s .filled)),
       )

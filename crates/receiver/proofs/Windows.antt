@@ -1,14 +1,14 @@
--- The step rule by windows: reading samples is following the decisions at the windows that they complete. And how the windows of a
--- block fall into those that begin before it and its own.
+-- The decisions of a list of samples, and the step rule by them: reading samples is following the decisions at the windows that they
+-- complete.
 -- Assumes nothing.
 use mathlib.Core.Path.{_≡_, refl, sym, ap, _∙_}
-use mathlib.Core.List.{List, [], _∷_, _++_, append-assoc, append-nil}
-use Prim.Native.Nat.{ℕ, suc, _+_, _<_, _≤_, min}
+use mathlib.Core.List.{List, [], _∷_, _++_, append-nil}
+use Prim.Native.Nat.{ℕ, zero, suc, _+_, _-_, _<_, _≤_}
 use native.Mathlib.Omega.{arith}
 use borrow.Author.Tests.{lt-ltb, le-ltb}
 use lib.IntN.{ℤ}
-use lib.ListN.{length, take, drop, length-append, length-drop, take-append-drop}
-use lib.Seq.{take-all, take-at, append-snoc, drop-append-le, drop-drop, take-append-le, length-take-le}
+use lib.ListN.{length, getD, take, drop, length-append, length-drop}
+use lib.Seq.{take-at, append-snoc, drop-append-le, drop-drop}
 use Rattle.integers.proofs.Tests.{lt-or-le}
 use Rattle.calls.specs.Runs.{after, gives}
 use Rattle.tones.specs.Bands.{tonesOf}
@@ -35,27 +35,19 @@ module _ (decide : List ℤ → Decision) where
   decisions-more [] h = absurd (omega arith)
   decisions-more (z ∷ zs) h = rw (le-ltb (length zs) 31 (omega arith))
 
-  -- a list that is cut twice, 31 samples apart
-  decisions-cut : (xs ys zs : List ℤ) → length ys ≡ 31 → decisions decide (xs ++ ys ++ zs) ≡ decisions decide (xs ++ ys) ++ decisions decide (ys ++ zs)
-  decisions-cut [] ys zs e = rw (decisions-none ys (omega arith))
-  decisions-cut (x ∷ xs) ys zs e =
-      let l : length (xs ++ ys) ≡ length xs + 31 = length-append xs ys ∙ ap (λ (n : ℕ). length xs + n) e in
-      decisions-more (x ∷ (xs ++ ys ++ zs)) (omega (arith, length-append (xs ++ ys) zs))
-      ∙ ap (λ (w : List ℤ). decide w ∷ decisions decide (xs ++ ys ++ zs)) (take-append-le 32 (x ∷ (xs ++ ys)) zs (omega arith))
-      ∙ ap (λ (ds : List Decision). decide (take 32 (x ∷ (xs ++ ys))) ∷ ds) (decisions-cut xs ys zs e)
-      ∙ ap (λ (ds : List Decision). ds ++ decisions decide (ys ++ zs)) (sym (decisions-more (x ∷ (xs ++ ys)) (omega arith)))
+  pub length-decisions : (zs : List ℤ) → length (decisions decide zs) ≡ length zs - 31
+  unfolding decisions
+  length-decisions [] = refl
+  length-decisions (z ∷ zs) =
+      lt-or-le (length zs) 31
+      (λ h. rw (lt-ltb (length zs) 31 h) (omega arith))
+      (λ h. rw (le-ltb (length zs) 31 h) (omega (arith, length-decisions zs)))
 
-  -- the windows that begin in `old`, and those of the block xs
-  pub decisions-seam : (old xs : List ℤ) (n : ℕ) → n ≡ min (length xs) 31
-      → decisions decide (old ++ xs) ≡ decisions decide (old ++ take n xs) ++ decisions decide xs
-  decisions-seam old xs n e =
-      lt-or-le (length xs) 31
-      (λ h. rw (take-all n xs (omega arith), decisions-none xs (omega arith)) (sym (append-nil (decisions decide (old ++ xs)))))
-      (λ h.
-      ap (λ (l : List ℤ). decisions decide (old ++ l)) (sym (take-append-drop n xs))
-      ∙ ap (decisions decide) (sym (append-assoc old (take n xs) (drop n xs)))
-      ∙ decisions-cut old (take n xs) (drop n xs) (length-take-le n xs (omega arith) ∙ omega arith)
-      ∙ ap (λ (l : List ℤ). decisions decide (old ++ take n xs) ++ decisions decide l) (take-append-drop n xs))
+  -- the decision at place i is that of the 32 samples from i on
+  pub decisions-at : (i : ℕ) (zs : List ℤ) (d : Decision) → i + 32 ≤ length zs → getD (decisions decide zs) i d ≡ decide (take 32 (drop i zs))
+  decisions-at zero zs d h = rw (decisions-more zs (omega arith))
+  decisions-at (suc i) [] d h = absurd (omega arith)
+  decisions-at (suc i) (z ∷ zs) d h = rw (decisions-more (z ∷ zs) (omega arith)) (decisions-at i zs d (omega arith))
 
   -- a sample enters a window
   decisions-entered : (window : List ℤ) (x : ℤ) (xs : List ℤ) → length window ≡ 32

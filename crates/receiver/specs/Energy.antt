@@ -5,7 +5,7 @@ use mathlib.Core.Bool.{true, cond}
 use mathlib.Core.List.{List}
 use Prim.Native.Nat.{ℕ, _+_, _*_}
 use lib.IntN.{ℤ, pos, natAbs, _+ℤ_, _*ℤ_}
-use lib.ListN.{length, getD}
+use lib.ListN.{length, getD, take, drop}
 use lib.Signed.{ltZ, leZ}
 use Rattle.integers.specs.Sums.{dot, sumTo, Bounded}
 use Rattle.sine.specs.Sine.{S, C}
@@ -49,7 +49,7 @@ decided space mark = record { good = leZ (pos level) (larger space mark); space 
 unfoldable pub decisionOf : Tones → List ℤ → Decision
 decisionOf t window = decided (energy window (t .space)) (energy window (t .mark))
 
--- ---- the same from lists of weights, as the code has it: cosines and sines of the tone of space, and of the tone of mark
+-- ---- the same from lists of weights, as the code has it: cosines or sines of a tone
 
 -- what the code asks of a window and of a list of weights, so that no sum leaves an i32
 pub record IsWindow (xs : List ℤ) : Type 0 where
@@ -63,5 +63,15 @@ pub record AreWeights (xs : List ℤ) : Type 0 where
 abbrev pub energyBy : List ℤ → List ℤ → List ℤ → ℤ
 energyBy cos sin window = dot window cos *ℤ dot window cos +ℤ dot window sin *ℤ dot window sin
 
-abbrev pub decisionBy : List ℤ → List ℤ → List ℤ → List ℤ → List ℤ → Decision
-decisionBy c0 s0 c1 s1 window = decided (energyBy c0 s0 window) (energyBy c1 s1 window)
+-- the four lists of a band, one behind the other: cosines and sines of the tone of space, and of the tone of mark
+pub record IsBank (weights : List ℤ) : Type 0 where
+  pub long : length weights ≡ 128
+  pub small : Bounded 6000 weights
+
+-- list k of the four
+abbrev pub kind : ℕ → List ℤ → List ℤ
+kind k weights = take 32 (drop (32 * k) weights)
+
+abbrev pub decisionBy : List ℤ → List ℤ → Decision
+decisionBy weights window =
+    decided (energyBy (kind 0 weights) (kind 1 weights) window) (energyBy (kind 2 weights) (kind 3 weights) window)

@@ -1,23 +1,38 @@
 // The energies of the two tones in a window, and what they decide.
 ghost use mathlib.Core.Path.{_≡_};
-ghost use Prim.Native.Nat.{_≤_};
+ghost use Prim.Native.Nat.{_<_, _≤_};
 ghost use lib.IntN.{natAbs, _+ℤ_, _*ℤ_};
-ghost use Rattle.receiver.specs.Energy.{decided, IsWindow, AreWeights, energyBy, decisionBy};
+ghost use lib.ListN.{length};
+ghost use Rattle.receiver.specs.Energy.{decided, IsWindow, AreWeights, IsBank, energyBy, decisionBy};
+ghost use Rattle.receiver.specs.Places.{IsSource, decisionsBy, judged};
 use control::Decision;
 
-// The decision at a window, from the cosines and sines of the tones of space (bit 0) and mark (bit 1).
-pub(crate) fn decide(
-    window: &[i16],
-    c0: &[i16; 32],
-    s0: &[i16; 32],
-    c1: &[i16; 32],
-    s1: &[i16; 32],
-) -> Decision
-    requires { ⌜ IsWindow (now window) ⌝ }
-    requires { ⌜ (AreWeights (now c0) × AreWeights (now s0)) × (AreWeights (now c1) × AreWeights (now s1)) ⌝ }
-    ensures { λ r. ⌜ r ≡ decisionBy (now (c0 .entry)) (now (s0 .entry)) (now (c1 .entry)) (now (s1 .entry)) (now (window .entry)) ⌝ }
+// The decision at window i of a block, which ends with sample i. The first 31 begin before the block, and stand in the head.
+pub(crate) fn judge(head: &[i16], samples: &[i16], weights: &[i16], i: usize) -> Decision
+    requires { ⌜ IsSource (now weights) (now head) (now samples) ⌝ }
+    requires { ⌜ i < length (now samples) ⌝ }
+    ensures { λ r. ⌜ r ≡ judged (decisionsBy (now (weights .entry)) (now (head .entry)) (now (samples .entry))) i ⌝ }
 {
-    compare(energy(window, c0, s0), energy(window, c1, s1))
+    if i < 31 {
+        let start = i + 1;
+        let end = i + 33;
+        decide(&head[start..end], weights)
+    } else {
+        let start = i - 31;
+        let end = i + 1;
+        decide(&samples[start..end], weights)
+    }
+}
+
+// The decision at a window.
+fn decide(window: &[i16], weights: &[i16]) -> Decision
+    requires { ⌜ IsWindow (now window) ⌝ }
+    requires { ⌜ IsBank (now weights) ⌝ }
+    ensures { λ r. ⌜ r ≡ decisionBy (now (weights .entry)) (now (window .entry)) ⌝ }
+{
+    let space = energy(window, &weights[0..32], &weights[32..64]);
+    let mark = energy(window, &weights[64..96], &weights[96..128]);
+    compare(space, mark)
 }
 
 // The level and the larger tone from the two energies.
@@ -33,7 +48,7 @@ fn compare(space: i64, mark: i64) -> Decision
 
 // I times I + Q times Q. One loop after the other in one function: so the compiler makes vector code of both, and loads the
 // window once (docs/DECISIONS.md, 19).
-fn energy(window: &[i16], cos: &[i16; 32], sin: &[i16; 32]) -> i64
+fn energy(window: &[i16], cos: &[i16], sin: &[i16]) -> i64
     requires { ⌜ IsWindow (now window) ⌝ }
     requires { ⌜ AreWeights (now cos) × AreWeights (now sin) ⌝ }
     ensures { λ r. ⌜ r ≡ energyBy (now (cos .entry)) (now (sin .entry)) (now (window .entry)) ⌝ }

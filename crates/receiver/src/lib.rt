@@ -6,8 +6,12 @@ ghost use Rattle.receiver.specs.Calls.{openOf, inRange, blockOf};
 
 mod block;
 mod energy;
+mod moves;
+mod scan;
+mod seek;
 
 use calls::Answer;
+use control::Event;
 use control::Stage;
 
 // A band, the last 32 samples, oldest first, the run of samples with a good level, and the stage.
@@ -30,11 +34,33 @@ pub struct Reading {
     pub answer: Answer,
 }
 
-// How far a block is read: run and stage, and the count of events written.
+// What reading a block comes to: run and stage, and the count of events written.
 pub struct Progress {
     pub run: u8,
     pub stage: Stage,
     pub count: usize,
+}
+
+// A place in a block, before the window `next`. Before the window `known` the run was `run`, and the windows from `good` on, as far as the
+// place, have a good level.
+pub struct Place {
+    pub next: usize,
+    pub known: usize,
+    pub run: usize,
+    pub good: usize,
+}
+
+// How far a search went on, and whether its last window ends it.
+pub struct Sought {
+    pub place: Place,
+    pub found: bool,
+}
+
+// How far a stage went on: the stage there, and the event of the last window.
+pub struct Turn {
+    pub place: Place,
+    pub stage: Stage,
+    pub event: Event,
 }
 
 impl Receiver {

@@ -1,5 +1,5 @@
 -- Laws of `wave`: its two cases, its length, its entries and their size, that the phase counts modulo 1,920, and that half a
--- cycle on the samples are the opposite ones.
+-- cycle on the samples are the opposite ones. Then what is read from a table of sines.
 -- Assumes nothing.
 use mathlib.Core.Path.{_≡_, refl, _∙_, ap, ap₂}
 use mathlib.Core.List.{List, [], _∷_, map}
@@ -8,11 +8,14 @@ use native.Mathlib.Nat.{suc-mul, not-suc-le-zero, le-of-suc-le-suc}
 use native.Mathlib.Omega.{arith}
 use lib.IntN.{ℤ, pos, negℤ}
 use lib.ListN.{length, getD}
+use mir.Syntax.{w16}
+use mir.Val.{toZ, ofZ}
+use mir.Facts.{toZ-ofZ}
 use Rattle.integers.specs.Sums.{Bounded}
 use Rattle.integers.proofs.Sums.{bounded-none, bounded-more}
 use Rattle.sine.specs.Sine.{S}
-use Rattle.sine.specs.Wave.{wave}
-use Rattle.sine.proofs.Laws.{S-same, S-opposite, S-bound}
+use Rattle.sine.specs.Wave.{wave, HoldsSine}
+use Rattle.sine.proofs.Laws.{S-mod, S-same, S-opposite, S-bound, S-fits}
 
 pub wave-none : (s p : ℕ) → wave 0 s p ≡ []
 unfolding wave
@@ -53,3 +56,7 @@ pub wave-bound : (n s p : ℕ) → Bounded 6000 (wave n s p)
 unfolding wave
 wave-bound zero s p = bounded-none
 wave-bound (suc n) s p = bounded-more (S-bound p) (wave-bound n s (p + s))
+
+-- a value that is read from a table, at a phase modulo 1,920
+pub entry : (xs : List ℤ) (k p : ℕ) → HoldsSine xs → k ≡ p % 1920 → toZ w16 (ofZ w16 (getD xs k (pos 0))) ≡ S p
+entry xs k p h e = let f : getD xs k (pos 0) ≡ S p = h .at k (omega arith) ∙ ap S e ∙ S-mod p in rw f (toZ-ofZ (S-fits p))

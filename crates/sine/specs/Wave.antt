@@ -1,7 +1,7 @@
--- Lists of sines: a tone's samples, and the table of one cycle. The definitions are ours; S is document 01's.
+-- Lists of sines: a tone's samples, the weights of two tones, and the table of one cycle. The definitions are ours; S is document 01's.
 -- Assumes nothing.
 use mathlib.Core.Path.{_≡_}
-use mathlib.Core.List.{List, [], _∷_}
+use mathlib.Core.List.{List, [], _∷_, _++_}
 use Prim.Native.Nat.{ℕ, zero, suc, _+_, _<_}
 use lib.IntN.{ℤ, pos}
 use lib.ListN.{getD}
@@ -11,6 +11,14 @@ use Rattle.sine.specs.Sine.{S}
 unfoldable pub wave : ℕ → ℕ → ℕ → List ℤ
 wave zero step phase = []
 wave (suc n) step phase = S phase ∷ wave n step (phase + step)
+
+-- 32 cosines and 32 sines of a step; C(j t) is S(480 + j t)
+unfoldable pub quadratureOf : ℕ → List ℤ
+quadratureOf step = wave 32 step 480 ++ wave 32 step 0
+
+-- those of the first step, then those of the second
+unfoldable pub weightsOf : ℕ → ℕ → List ℤ
+weightsOf first second = quadratureOf first ++ quadratureOf second
 
 -- a list that holds S(k) at each place k below 1,920
 pub record HoldsSine (xs : List ℤ) : Type 0 where

@@ -1,9 +1,11 @@
 // The sine table: 1,920 phases to the cycle, amplitude 6,000. Nothing above this crate sees the table: what its users know
 // of it is the rule S of specs/Sine.antt and the laws of proofs/Laws.antt.
 ghost use mathlib.Core.Path.{_≡_};
-ghost use Prim.Native.Nat.{_<_};
+ghost use Prim.Native.Nat.{_+_, _%_, _<_, _≤_};
+ghost use lib.ListN.{length};
+ghost use lib.Seq.{sets};
 ghost use Rattle.sine.specs.Sine.{S, C};
-ghost use Rattle.sine.specs.Wave.{wave, HoldsSine};
+ghost use Rattle.sine.specs.Wave.{wave, quadratureOf, weightsOf, HoldsSine};
 
 mod table;
 
@@ -42,4 +44,43 @@ fn sampled(cycle: &[i16; 1920], step: usize, phase: usize) -> [i16; 32]
         j += 1;
     }
     samples
+}
+
+// The weights of two tones, 32 of each kind: the cosines and the sines of the first, then those of the second.
+pub fn weights(first: u16, second: u16) -> [i16; 128]
+    ensures { λ r. ⌜ r ≡ weightsOf first second ⌝ }
+{
+    let cycle = sines();
+    let mut made = [0i16; 128];
+    put_quadrature(&mut made, 0, &cycle, first as usize);
+    put_quadrature(&mut made, 64, &cycle, second as usize);
+    made
+}
+
+// Puts the 32 cosines of a tone into a buffer from the place `at` on, and behind them its 32 sines, from a table in hand. One
+// loop for both kinds, with phases that are added up, is the quickest.
+fn put_quadrature(out: &mut [i16], at: usize, cycle: &[i16; 1920], step: usize)
+    requires { ⌜ (HoldsSine (now cycle)) × (at + 64 ≤ length (now out)) ⌝ }
+    ensures { λ r. ⌜ now (out .exit) ≡ sets (now (out .entry)) at (quadratureOf step) ⌝ }
+{
+    let mut ahead: usize = 480;
+    let mut phase: usize = 0;
+    let mut j: usize = 0;
+    while j < 32 {
+        let place = at + j;
+        out[place] = cycle[ahead];
+        out[place + 32] = cycle[phase];
+        ahead = stepped(ahead, step);
+        phase = stepped(phase, step);
+        j += 1;
+    }
+}
+
+// The phase a step on, modulo 1,920.
+fn stepped(phase: usize, step: usize) -> usize
+    requires { ⌜ phase < 1920 ⌝ }
+    ensures { λ r. ⌜ r ≡ (phase + step) % 1920 ⌝ }
+{
+    let next = phase + step % 1920;
+    if next < 1920 { next } else { next - 1920 }
 }

@@ -1925,7 +1925,7 @@ const SINE: [i16; 1920] = [
 ];
 
 // The one use of the table, and the one test of its rule. Each call copies the whole table, so users take 32 samples at a
-// time, by `tone`.
+// time, by `tone`, or 128 weights, by `weights`.
 pub(crate) fn sines() -> [i16; 1920]
     ensures { λ r. ⌜ HoldsSine r ⌝ }
 {

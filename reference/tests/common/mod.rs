@@ -1,13 +1,14 @@
 //! What the test files share: one call made on either side, and compared. This
 //! file has the transmitter, `receiver` the receiver, `recording` what it reads,
-//! `states` what it goes on from and `refused` what it refuses in between.
-//! `process` runs the programs. `sheets` and `forms` have sheets and almost
-//! sheets, `lengths` how long they are, and `disturbed` what the program of that
-//! name prints.
+//! `states` what it goes on from, `refused` what it refuses in between and `met`
+//! what it gave. `process` runs the programs. `sheets` and `forms` have sheets and
+//! almost sheets, `lengths` how long they are, and `disturbed` what the program of
+//! that name prints.
 
 pub mod disturbed;
 pub mod forms;
 pub mod lengths;
+pub mod met;
 pub mod process;
 pub mod receiver;
 pub mod recording;

@@ -1,6 +1,7 @@
 //! Sendings of the reference's transmitter, and recordings of them.
 
 use super::sines;
+use super::states::steps;
 use reference::disturbance::MOST;
 use reference::random::Random;
 use reference::transmitter;
@@ -19,6 +20,19 @@ pub fn bits(message: &[u8]) -> Vec<usize> {
     }
     bits.extend([1; 3]);
     bits
+}
+
+/// The samples of any bits, from phase 0.
+pub fn keyed(band: u8, bits: &[usize]) -> Vec<i16> {
+    let mut phase = 0;
+    let mut samples = Vec::new();
+    for &bit in bits {
+        for _ in 0..32 {
+            samples.push(sines().s(phase));
+            phase += steps(band)[bit];
+        }
+    }
+    samples
 }
 
 /// The sending with silence before and behind it.
@@ -40,6 +54,11 @@ pub fn disturbed(recording: &[i16], mut number: impl FnMut(usize) -> i16) -> Vec
 pub fn around_0(random: &mut Random, most: i16) -> i16 {
     let numbers = 2 * usize::from(most.unsigned_abs()) + 1;
     i16::try_from(random.below(numbers)).expect("most is below 2^14") - most
+}
+
+/// Numbers from -`most` to `most`.
+pub fn noise(random: &mut Random, most: i16, count: usize) -> Vec<i16> {
+    (0..count).map(|_| around_0(random, most)).collect()
 }
 
 /// All 256 characters, each once, in a random order.

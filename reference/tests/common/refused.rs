@@ -1,16 +1,14 @@
 //! Calls that are refused, made between others, which must change nothing.
 
 use super::receiver::{compare, MOST_SAMPLES};
-use super::recording::around_0;
+use super::recording::noise;
 use super::states::is_good;
 use reference::library::Numbers;
 use reference::random::Random;
 
 /// A block of one sample more than the most.
 pub fn too_long(random: &mut Random) -> Vec<i16> {
-    (0..MOST_SAMPLES + 1)
-        .map(|_| around_0(random, 8_191))
-        .collect()
+    noise(random, 8_191, MOST_SAMPLES + 1)
 }
 
 /// A state that differs from the given one in one field, out of its range.

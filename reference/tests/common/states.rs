@@ -1,7 +1,7 @@
 //! Receiver states in range and out of it, and blocks to read from them.
 
 use super::receiver::{FRESH, WINDOW};
-use super::recording::around_0;
+use super::recording::noise;
 use super::{sines, BANDS, NO_BAND};
 use reference::library::Numbers;
 use reference::random::Random;
@@ -19,6 +19,24 @@ pub fn is_good(state: &Numbers) -> bool {
     let samples = state.window.map(i32::from);
     let window = samples.iter().all(|sample| sample.abs() <= 8_191);
     stage && window && BANDS.contains(&state.band) && state.run <= 32
+}
+
+/// The longest wait for a slot.
+pub fn longest_wait(slot: u8) -> u8 {
+    if slot == 0 {
+        16
+    } else {
+        32
+    }
+}
+
+/// The byte that is gathered before a slot is below this.
+pub fn byte_limit(slot: u8) -> usize {
+    if slot < 2 {
+        1
+    } else {
+        1 << (slot - 1)
+    }
 }
 
 /// The steps of space and mark.
@@ -48,14 +66,19 @@ pub fn tone(random: &mut Random, band: u8, count: usize) -> Vec<i16> {
 
 /// Silence, noise of any loudness, or a tone, each changing now and then.
 pub fn any_samples(random: &mut Random, band: u8, count: usize) -> Vec<i16> {
+    any_pieces(random, band, count, 300)
+}
+
+/// The same, each piece of `longest` samples at most.
+pub fn any_pieces(random: &mut Random, band: u8, count: usize, longest: usize) -> Vec<i16> {
     let mut samples = Vec::new();
     while samples.len() < count {
-        let piece = 1 + random.below(300);
+        let piece = 1 + random.below(longest);
         match random.below(8) {
             0 => samples.extend(vec![0; piece]),
             1 | 2 => {
                 let most = [100, 1_000, 4_000, 8_191][random.below(4)];
-                samples.extend((0..piece).map(|_| around_0(random, most)));
+                samples.extend(noise(random, most, piece));
             }
             _ => samples.extend(tone(random, band, piece)),
         }
@@ -101,10 +124,10 @@ pub fn good_state(random: &mut Random) -> Numbers {
                 0 => 1 + random.below(255),
                 _ => 1,
             };
-            let slot = random.below(10);
-            let wait = 1 + random.below(if slot == 0 { 16 } else { 32 });
-            let byte = random.below(if slot < 2 { 1 } else { 1 << (slot - 1) });
-            [first, wait, slot, byte].map(|number| number as u8)
+            let slot = random.below(10) as u8;
+            let wait = 1 + random.below(usize::from(longest_wait(slot)));
+            let byte = random.below(byte_limit(slot));
+            [first as u8, wait as u8, slot, byte as u8]
         }
     };
     let window = window.try_into().expect("a whole window");
@@ -131,10 +154,10 @@ pub fn hostile_state(random: &mut Random) -> Numbers {
         3 => state.stage = [1, 0, random.below(10) as u8, 0],
         4 => state.stage = [1, 1, 10 + random.below(246) as u8, 0],
         _ => {
-            let slot = random.below(9);
-            let least = if slot < 2 { 1 } else { 1 << (slot - 1) };
+            let slot = random.below(9) as u8;
+            let least = byte_limit(slot);
             let byte = least + random.below(256 - least);
-            state.stage = [1, 1, slot as u8, byte as u8];
+            state.stage = [1, 1, slot, byte as u8];
         }
     }
     assert!(!is_good(&state), "{state:?}");

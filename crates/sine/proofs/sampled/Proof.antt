@@ -1,27 +1,18 @@
 -- `sine::sampled` meets its contract: the array is filled with the wave, sample by sample.
 -- Assumes nothing.
-use mathlib.Core.Path.{_≡_, sym, _∙_}
-use mathlib.Core.List.{List, append-nil}
-use Prim.Native.Nat.{ℕ, _+_, _*_, _-_, _%_, _≤_}
+use mathlib.Core.Path.{_≡_, refl, sym, _∙_}
+use mathlib.Core.List.{append-nil}
+use Prim.Native.Nat.{_+_, _*_, _-_, _%_, _≤_}
 use native.Mathlib.Nat.{mul-le-mul, le-of-lt}
 use native.Mathlib.Omega.{arith}
 use borrow.Author.Needs.{needs}
-use lib.IntN.{ℤ, pos}
-use lib.ListN.{length, getD, drop, replicate, drop-of-length-le}
-use mir.Syntax.{w16}
-use mir.Val.{toZ, ofZ}
-use mir.Facts.{toZ-ofZ}
+use lib.IntN.{pos}
+use lib.ListN.{length, drop, replicate, drop-of-length-le}
 use Rattle.calls.proofs.Filling.{Filling, filling-start, filling-next, filling-front}
-use Rattle.sine.specs.Sine.{S}
-use Rattle.sine.specs.Wave.{wave, HoldsSine}
-use Rattle.sine.proofs.Laws.{S-mod, S-fits}
-use Rattle.sine.proofs.Wave.{length-wave, wave-at}
+use Rattle.sine.specs.Wave.{wave}
+use Rattle.sine.proofs.Wave.{length-wave, wave-at, entry}
 use Rattle.sine.proofs.sampled.Statement.{statement}
 use Rattle.sine.proofs.sampled.Tie as tie
-
--- a value that is read from the table
-entry : (xs : List ℤ) (p : ℕ) → HoldsSine xs → toZ w16 (ofZ w16 (getD xs (p % 1920) (pos 0))) ≡ S p
-entry xs p h = let e : getD xs (p % 1920) (pos 0) ≡ S p = h .at (p % 1920) (omega arith) ∙ S-mod p in rw e (toZ-ofZ (S-fits p))
 
 abbrev Inv-loop : tie.InvT-loop
 Inv-loop cycle step phase samples₀ j₀ samples j =
@@ -61,7 +52,7 @@ loop-again : tie.Need-loop-again Inv-loop μ-loop
 loop-again c =
     let l = c .before .before .loop in
     let a = c .before .before .before .args in
-    let read = entry (a .cycle .now) (a .phase + l .j * a .step) (c .before .before .before .pre .0) in
+    let read = entry (a .cycle .now) ((a .phase + l .j * a .step) % 1920) (a .phase + l .j * a .step) (c .before .before .before .pre .0) refl in
     let sample = wave-at 32 (a .step) (a .phase) (l .j) (omega arith) in (
       omega arith,
       filling-next (wave 32 (a .step) (a .phase)) (l .j) (pos 0) _ (omega (arith, length-wave 32 (a .step) (a .phase))) (read ∙ sym sample) (l .inv .1),

@@ -1,42 +1,74 @@
 -- `receiver::block::read` meets its contract: the windows of the head and of the block are those that the samples complete.
 -- Assumes nothing.
+use mathlib.Core.Path.{_≡_, ap, _∙_}
+use mathlib.Core.List.{List}
 use borrow.Author.Needs.{needs}
+use lib.IntN.{ℤ}
+use lib.Seq.{sets}
+use Rattle.sine.specs.Wave.{weightsOf}
+use Rattle.tones.specs.declared.Tones.{Tones}
+use Rattle.tones.specs.Bands.{tonesOf}
+use Rattle.control.specs.declared.Decision.{Decision}
+use Rattle.control.specs.Rules.{reports}
+use Rattle.receiver.specs.declared.Receiver.{Receiver}
+use Rattle.receiver.specs.Step.{controlOf}
+use Rattle.receiver.specs.Windows.{progressed}
+use Rattle.receiver.specs.Places.{decisionsBy}
 use Rattle.receiver.proofs.Ranges.{in-range}
-use Rattle.receiver.proofs.Blocks.{Accepted, Head, source-samples, whole-room, block-read}
+use Rattle.receiver.proofs.Windows.{decisionsOver}
+use Rattle.receiver.proofs.Blocks.{Accepted, Head, block-source, block-decisions, block-room, block-read}
 use Rattle.receiver.proofs.block.read.Statement.{statement}
 use Rattle.receiver.proofs.block.read.Tie as tie
 
-at-most-31-requires : tie.Need-at-most-31-requires
-at-most-31-requires c κs = tt
+earlier-requires : tie.Need-earlier-requires
+earlier-requires c κs = tt
 
 joined-requires : tie.Need-joined-requires
 joined-requires c κs = search needs
 
-add-end : tie.Need-add-end
-add-end c = search needs
+tones-of-requires : tie.Need-tones-of-requires
+tones-of-requires c κs = tt
 
-sub-scan-all : tie.Need-sub-scan-all
-sub-scan-all c = search needs
+weights-requires : tie.Need-weights-requires
+weights-requires c κs = tt
 
-part-scan-all-start : tie.Need-part-scan-all-start
-part-scan-all-start c = search needs
+slice-aggregate-scan : tie.Need-slice-aggregate-scan
+slice-aggregate-scan c = search needs
 
-part-scan-all-end : tie.Need-part-scan-all-end
-part-scan-all-end c = search needs
+slice-aggregate-scan-2 : tie.Need-slice-aggregate-scan-2
+slice-aggregate-scan-2 c = search needs
 
--- the block is accepted
-allowed : (c : tie.Start) → Accepted (c .args .receiver) (c .args .samples .now) (c .args .events .now)
-allowed c = record { range = c .pre .0; long = search needs; samples = c .pre .1 .0; room = c .pre .1 .1 }
+-- the block is accepted, the head joins the window and the first samples, and the weights are those of the band
+module _ (w : tie.After-weights) where
+  abbrev start : tie.Start
+  start = w .before .before .before .before .before .before .before
 
--- the head joins the window and the first samples
-head : (c : tie.After-joined) → Head (c .before .before .before .before .before .args .receiver) (c .before .before .before .before .before .args .samples .now) (c .before .before .at-most-31 .result) (c .joined .result)
-head c = record { cut = c .before .before .at-most-31 .ensures; whole = c .joined .ensures .1 }
+  abbrev state : Receiver
+  state = start .args .receiver
 
-scan-all-requires : tie.Need-scan-all-requires
-scan-all-requires c κs =
-    let j = c .before .before .before in
-    let s = j .before .before .before .before .before in
-    ((source-samples (allowed s) (head j), s .pre .1 .0), (in-range _ (s .pre .0) .control, whole-room (allowed s) (head j)))
+  abbrev samples : List ℤ
+  samples = start .args .samples .now
+
+  allowed : Accepted state samples (start .args .events .now)
+  allowed = record { range = start .pre .0; long = search needs; samples = start .pre .1 .0; room = start .pre .1 .1 }
+
+  head : Head state samples (w .before .before .before .before .earlier .result) (w .before .before .joined .result)
+  head =
+      let j = w .before .before in
+      record { cut = j .before .before .earlier .ensures; long = j .joined .ensures .0; whole = j .joined .ensures .1 }
+
+  weigh : w .weights .result ≡ weightsOf (tonesOf (state .band) .space) (tonesOf (state .band) .mark)
+  weigh = w .weights .ensures ∙ ap (λ (t : Tones). weightsOf (t .space) (t .mark)) (w .before .tones-of .ensures)
+
+  decided : decisionsBy (w .weights .result) (w .before .before .joined .result) samples ≡ decisionsOver state samples
+  decided = block-decisions allowed head (w .weights .result) weigh
+
+scan-requires : tie.Need-scan-requires
+scan-requires c κs =
+    let w = c .before .before .before in (
+      block-source (allowed w) (head w) (w .weights .result) (weigh w),
+      (in-range _ (start w .pre .0) .control, rw (decided w) (block-room (allowed w) (head w))),
+    )
 
 slice-aggregate-last-window : tie.Need-slice-aggregate-last-window
 slice-aggregate-last-window c = search needs
@@ -50,8 +82,12 @@ same-length c = search needs
 returns : tie.Need-returns
 returns c =
     let u = c .before .before .before .before in
-    let j = u .before .before .before .before in
-    block-read (allowed (j .before .before .before .before .before)) (head j) _ (u .scan-all .ensures .0) _ (u .scan-all .ensures .1) (c .last-window .result) (c .last-window .ensures)
+    let w = u .before .before .before .before in
+    let s = state w in
+    block-read (allowed w) (head w)
+    _ (u .scan .ensures .0 ∙ ap (progressed (controlOf s)) (decided w))
+    _ (u .scan .ensures .1 ∙ ap (λ (ds : List Decision). sets (start w .args .events .now) 0 (reports (controlOf s) ds)) (decided w))
+    (c .last-window .result) (c .last-window .ensures)
 
 pub read-spec : {M : Type 1} → statement M
-read-spec = tie.close (tie.spec at-most-31-requires joined-requires add-end sub-scan-all part-scan-all-start part-scan-all-end scan-all-requires slice-aggregate-last-window last-window-requires same-length returns)
+read-spec = tie.close (tie.spec earlier-requires joined-requires tones-of-requires weights-requires slice-aggregate-scan slice-aggregate-scan-2 scan-requires slice-aggregate-last-window last-window-requires same-length returns)

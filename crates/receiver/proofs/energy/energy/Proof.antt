@@ -36,9 +36,9 @@ shared-slice-copy-out-plus-product c = search needs
 mul-plus-product-2 : tie.Need-mul-plus-product-2 Inv-loop μ-loop Inv-loop2 μ-loop2
 mul-plus-product-2 c = search needs
 
-element-copy-out-plus-product :
-    tie.Need-element-copy-out-plus-product Inv-loop μ-loop Inv-loop2 μ-loop2
-element-copy-out-plus-product c = search needs
+shared-slice-copy-out-plus-product-2 :
+    tie.Need-shared-slice-copy-out-plus-product-2 Inv-loop μ-loop Inv-loop2 μ-loop2
+shared-slice-copy-out-plus-product-2 c = search needs
 
 plus-product-requires : tie.Need-plus-product-requires Inv-loop μ-loop Inv-loop2 μ-loop2
 plus-product-requires c κs =
@@ -63,16 +63,16 @@ loop2-holds c = summing-start (c .before .before .args .window .now) (c .before 
 mul-plus-product-3 : tie.Need-mul-plus-product-3 Inv-loop μ-loop Inv-loop2 μ-loop2
 mul-plus-product-3 c = search needs
 
-shared-slice-copy-out-plus-product-2 :
-    tie.Need-shared-slice-copy-out-plus-product-2 Inv-loop μ-loop Inv-loop2 μ-loop2
-shared-slice-copy-out-plus-product-2 c = search needs
+shared-slice-copy-out-plus-product-3 :
+    tie.Need-shared-slice-copy-out-plus-product-3 Inv-loop μ-loop Inv-loop2 μ-loop2
+shared-slice-copy-out-plus-product-3 c = search needs
 
 mul-plus-product-4 : tie.Need-mul-plus-product-4 Inv-loop μ-loop Inv-loop2 μ-loop2
 mul-plus-product-4 c = search needs
 
-element-copy-out-plus-product-2 :
-    tie.Need-element-copy-out-plus-product-2 Inv-loop μ-loop Inv-loop2 μ-loop2
-element-copy-out-plus-product-2 c = search needs
+shared-slice-copy-out-plus-product-4 :
+    tie.Need-shared-slice-copy-out-plus-product-4 Inv-loop μ-loop Inv-loop2 μ-loop2
+shared-slice-copy-out-plus-product-4 c = search needs
 
 plus-product-requires-2 : tie.Need-plus-product-requires-2 Inv-loop μ-loop Inv-loop2 μ-loop2
 plus-product-requires-2 c κs =
@@ -107,4 +107,4 @@ returns c =
     (summing-end (c .before .before .loop2 .inv) (s .pre .0) (s .pre .1 .1) (c .before .loop2-test .left) .0)
 
 pub energy-spec : {M : Type 1} → statement M
-energy-spec = tie.close (tie.spec Inv-loop μ-loop Inv-loop2 μ-loop2 loop-holds mul-plus-product shared-slice-copy-out-plus-product mul-plus-product-2 element-copy-out-plus-product plus-product-requires add-j loop-less loop-again loop2-holds mul-plus-product-3 shared-slice-copy-out-plus-product-2 mul-plus-product-4 element-copy-out-plus-product-2 plus-product-requires-2 add-k loop2-less loop2-again squares-requires returns)
+energy-spec = tie.close (tie.spec Inv-loop μ-loop Inv-loop2 μ-loop2 loop-holds mul-plus-product shared-slice-copy-out-plus-product mul-plus-product-2 shared-slice-copy-out-plus-product-2 plus-product-requires add-j loop-less loop-again loop2-holds mul-plus-product-3 shared-slice-copy-out-plus-product-3 mul-plus-product-4 shared-slice-copy-out-plus-product-4 plus-product-requires-2 add-k loop2-less loop2-again squares-requires returns)

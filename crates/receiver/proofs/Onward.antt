@@ -1,0 +1,204 @@
+-- From one place in a list of decisions to another: how a search goes on, what it comes to, and how a wait does. From the laws of places
+-- and of stretches of decisions.
+-- Assumes nothing.
+use mathlib.Core.Path.{_≡_, refl, sym, ap, _∙_}
+use mathlib.Core.Bool.{Bool, true, false, cond, Bool·beq}
+use mathlib.Core.List.{List, [], _∷_, _++_}
+use Prim.Native.Nat.{ℕ, _+_, _-_, _<_, _≤_}
+use native.Mathlib.Omega.{arith}
+use borrow.Author.Tests.{leb-false}
+use lib.Dec.{leb}
+use lib.ListN.{length}
+use Rattle.integers.proofs.Tests.{cond-split}
+use Rattle.control.specs.declared.Decision.{Decision}
+use Rattle.control.specs.declared.Event.the-variants.{Nothing}
+use Rattle.control.specs.declared.Next.{Next}
+use Rattle.control.specs.declared.Stage.{Stage}
+use Rattle.control.specs.declared.Stage.the-variants.{Waiting}
+use Rattle.control.specs.Control.{isStage}
+use Rattle.control.specs.Rules.{numbers, quiet, isFound, nextOf, waitOver, runOver, NoneFound}
+use Rattle.control.proofs.Rules.{wait-parts}
+use Rattle.control.proofs.Ranges.{wait-low, stage-wait, stage-slot}
+use Rattle.control.proofs.Stretches.{Leads, run-low, found-other, none-short, none-more, none-last, lead-more, waits, IsSearch, searches}
+use Rattle.receiver.specs.declared.Place.{Place}
+use Rattle.receiver.specs.declared.Sought.{Sought}
+use Rattle.receiver.specs.declared.Turn.{Turn}
+use Rattle.receiver.specs.Places.{judged, between, IsPlace, runBefore, runAt, controlAt, exactly, movedTo, skipped, Seeks, missedAt, Onward}
+use Rattle.receiver.proofs.Places.{between-same, between-more, length-between, place-exact, run-exact, known-first, place-moved, place-more, run-on, run-more, run-bad, run-most}
+
+module _ (ds : List Decision) (p : Place) where
+  -- before decision i none has ended a search
+  pub record Seeking (space : Bool) (i good : ℕ) : Type 0 where
+    pub later : p .next ≤ i
+    pub place : IsPlace ds (movedTo p i good)
+    pub none : NoneFound space (runAt ds p) (between (p .next) i ds)
+
+  -- the slot of a wait is taken at i, with a good level or without one
+  pub record Slot (stage : Stage) (i : ℕ) (n : Next) : Type 0 where
+    pub good : judged ds i .good ≡ true → Onward ds p stage (record { place = movedTo p (i + 1) i; stage = n .stage; event = n .event })
+    pub bad : judged ds i .good ≡ false → Onward ds p stage (record { place = exactly (i + 1) 0; stage = n .stage; event = n .event })
+
+  module _ (v : IsPlace ds p) where
+    -- ---- a search
+
+    module _ (space : Bool) where
+      -- none ends it before the run can be 32
+      seek-over : (i : ℕ) → p .next < i → i ≤ length ds → i ≤ p .known + (31 - p .run) → Seeking space i i
+      seek-over i h l f =
+          record {
+            later = omega arith;
+            place = place-moved ds p v i (omega arith) l;
+            none =
+                none-short space (runAt ds p) (between (p .next) i ds)
+                (omega (arith, run-most ds p v (p .next) (known-first ds p v) (v .inside), length-between ds (p .next) i (omega arith) l, known-first ds p v));
+          }
+
+      pub seek-start : (first : Place) → first ≡ skipped p → first .next ≤ length ds → Seeking space (first .next) (first .good)
+      unfolding NoneFound
+      seek-start first e =
+          rw e
+          (cond-split (λ (q : Place). q .next ≤ length ds → Seeking space (q .next) (q .good)) (leb (p .known + (31 - p .run)) (p .next)) _ _
+          (λ t l. record { later = omega arith; place = v; none = rw (between-same ds (p .next)) tt })
+          (λ t l. seek-over (p .known + (31 - p .run)) (leb-false _ _ t) l (omega arith)))
+
+      -- it is not ended so far
+      pub seek-missed : (i good : ℕ) → p .next < i → Seeking space i good → Seeks ds p space (missedAt (movedTo p i good))
+      seek-missed i good h s =
+          let e : i ≡ i - 1 + 1 = omega arith in
+          let l : i - 1 < length ds = omega (arith, s .place .inside) in
+          let b : between (p .next) i ds ≡ between (p .next) (i - 1) ds ++ judged ds (i - 1) ∷ [] =
+          ap (λ (n : ℕ). between (p .next) n ds) e ∙ between-more ds (p .next) (i - 1) (omega arith) l in
+          let n = none-last space (judged ds (i - 1)) (runAt ds p) (between (p .next) (i - 1) ds) (rw b at (s .none)) in
+          record {
+            later = h;
+            place = s .place;
+            run = refl;
+            none = n .0;
+            last = sym (n .1) ∙ ap (λ (r : ℕ). isFound space r (judged ds (i - 1))) (ap (runOver (runAt ds p)) (sym b) ∙ run-on ds p v i (s .later));
+          }
+
+      -- it is not ended before the end, since the run cannot be 32
+      pub seek-short : (first : Place) → first ≡ skipped p → (end : ℕ) → p .next < end → end ≤ length ds → end ≤ first .next
+          → Seeks ds p space (missedAt (movedTo p end end))
+      seek-short first e end h l =
+          rw e
+          (cond-split (λ (q : Place). end ≤ q .next → Seeks ds p space (missedAt (movedTo p end end))) (leb (p .known + (31 - p .run)) (p .next)) _ _
+          (λ t m. absurd (omega arith))
+          (λ t m. seek-missed end end h (seek-over end h l m)))
+
+      module _ (i good : ℕ) (s : Seeking space i good) (l : i < length ds) where
+        known-i : p .known ≤ i
+        known-i = omega (arith, known-first ds p v, s .later)
+
+        none-i : NoneFound space (runAt ds p) (between (p .next) (i + 1 - 1) ds)
+        none-i = let e : i + 1 - 1 ≡ i = omega arith in rw e (s .none)
+
+        -- another tone
+        pub seek-other : judged ds i .good ≡ true → Bool·beq (judged ds i .space) space ≡ false → Seeking space (i + 1) good
+        seek-other g t =
+            record {
+              later = omega (arith, s .later);
+              place = place-more ds p v i good (s .place) l g;
+              none =
+                  rw (between-more ds (p .next) i (s .later) l)
+                  (none-more space (judged ds i) (runAt ds p) (between (p .next) i ds) (s .none) (found-other space (runOver (runAt ds p) (between (p .next) i ds ++ judged ds i ∷ [])) (judged ds i) t));
+            }
+
+        -- no good level
+        pub seek-bad : judged ds i .good ≡ false → Seeks ds p space (missedAt (exactly (i + 1) 0))
+        seek-bad g =
+            record {
+              later = omega (arith, s .later);
+              place = place-exact ds (i + 1) 0 (omega arith) (omega arith);
+              run = run-exact ds (i + 1) 0 ∙ sym (run-bad ds p v i known-i l g);
+              none = none-i;
+              last = sym (ap (λ (n : ℕ). isFound space n (judged ds (i + 1 - 1))) (run-exact ds (i + 1) 0));
+            }
+
+        -- the tone: the run decides
+        pub seek-tone : (run : ℕ) → run ≡ runBefore ds p (i + 1)
+            → Seeks ds p space (record { place = exactly (i + 1) run; found = isFound space run (judged ds i) })
+        seek-tone run e =
+            let f : i + 1 - 1 ≡ i = omega arith in
+            record {
+              later = omega (arith, s .later);
+              place = place-exact ds (i + 1) run (omega arith) (rw e (run-low (p .run) (between (p .known) (i + 1) ds) (v .low)));
+              run = run-exact ds (i + 1) run ∙ e;
+              none = none-i;
+              last = rw f (ap (λ (n : ℕ). isFound space n (judged ds i)) (sym (run-exact ds (i + 1) run)));
+            }
+
+    -- ---- from the place on
+
+    module _ (stage : Stage) where
+      -- the decisions from the place to i lead to this stage, with these events
+      abbrev Led : ℕ → Stage → List ℕ → Type 0
+      Led i = Leads (controlAt ds p stage) (between (p .next) i ds) (runBefore ds p i)
+
+      led-more : (i : ℕ) {s : Stage} → p .next ≤ i → i < length ds → Led i s [] → (n : Next) → n ≡ nextOf s (runBefore ds p (i + 1)) (judged ds i)
+          → Led (i + 1) (n .stage) (numbers (n .event))
+      led-more i h l a n e =
+          let r = run-more ds p v i (omega (arith, known-first ds p v)) l in
+          rw (between-more ds (p .next) i h l, r) (lead-more (judged ds i) n (rw r at e) a)
+
+      onward : (t : Turn) → p .next < t .place .next → IsPlace ds (t .place) → runAt ds (t .place) ≡ runBefore ds p (t .place .next)
+          → Led (t .place .next) (t .stage) (numbers (t .event)) → Onward ds p stage t
+      onward t h w e a =
+          record {
+            later = h;
+            place = w;
+            control = a .control ∙ sym (λ j. record { run = e j; stage = t .stage });
+            events = a .told;
+          }
+
+    -- what a search comes to
+    pub search-onward : {space : Bool} {stage found : Stage} → IsSearch space stage found → (s : Sought) → Seeks ds p space s
+        → Onward ds p stage (record { place = s .place; stage = cond (s .found) found stage; event = Nothing })
+    search-onward {space} {stage} {found} f s k =
+        let i : ℕ = s .place .next - 1 in
+        let e : s .place .next - 1 + 1 ≡ s .place .next = omega (arith, k .later) in
+        let h : p .next ≤ s .place .next - 1 = omega (arith, k .later) in
+        let l : s .place .next - 1 < length ds = omega (arith, k .later, k .place .inside) in
+        let a : Led stage i stage [] = rw (run-on ds p v i h) at (searches f (runAt ds p) (between (p .next) i ds) (k .none)) in
+        onward stage _ (k .later) (k .place) (k .run)
+        (rw e at
+        (led-more stage i h l a (quiet (cond (s .found) found stage))
+        (ap (λ (b : Bool). quiet (cond b found stage)) (k .last ∙ ap (λ (r : ℕ). isFound space r (judged ds i)) (k .run ∙ ap (runBefore ds p) (sym e)))
+        ∙ sym (f .step (runBefore ds p (i + 1)) (judged ds i)))))
+
+    -- ---- a wait
+
+    module _ (wait slot byte : ℕ) (k : isStage (Waiting wait slot byte) ≡ true) where
+      led-wait : (i : ℕ) → p .next ≤ i → i - p .next < wait → i ≤ length ds → Led (Waiting wait slot byte) i (Waiting (wait - (i - p .next)) slot byte) []
+      led-wait i h b l =
+          let n : length (between (p .next) i ds) ≡ i - p .next = length-between ds (p .next) i h l in
+          rw (n, run-on ds p v i h) at (waits (runAt ds p) wait slot byte (between (p .next) i ds) (rw n b))
+
+      -- it goes on to i
+      pub wait-on : (i left : ℕ) → p .next < i → i - p .next < wait → i ≤ length ds → left ≡ wait - (i - p .next)
+          → Onward ds p (Waiting wait slot byte) (record { place = movedTo p i i; stage = Waiting left slot byte; event = Nothing })
+      wait-on i left h b l e =
+          rw e (onward (Waiting wait slot byte) _ h (place-moved ds p v i (omega arith) l) refl (led-wait i (omega arith) b l))
+
+      -- the slot is taken at i
+      module _ (i : ℕ) (e : i ≡ p .next + wait - 1) (l : i < length ds) (n : Next) (q : n ≡ waitOver (Waiting wait slot byte) (judged ds i)) where
+        low : 1 ≤ wait
+        low = wait-low wait slot (stage-wait wait slot byte k)
+
+        later-on : p .next ≤ i
+        later-on = omega (arith, low)
+
+        led-slot : Led (Waiting wait slot byte) (i + 1) (n .stage) (numbers (n .event))
+        led-slot =
+            let one : wait - (i - p .next) ≡ 1 = omega (arith, low) in
+            led-more (Waiting wait slot byte) i later-on l (led-wait i later-on (omega (arith, low)) (omega arith)) n
+            (q ∙ sym (wait-parts (runBefore ds p (i + 1)) (judged ds i) (wait - (i - p .next)) slot byte one (stage-slot wait slot byte k)))
+
+        pub slot-taken : Slot (Waiting wait slot byte) i n
+        slot-taken =
+            record {
+              good = λ g. onward (Waiting wait slot byte) _ (omega (arith, later-on)) (place-more ds p v i i (place-moved ds p v i later-on (omega arith)) l g) refl led-slot;
+              bad = λ g.
+                  onward (Waiting wait slot byte) _ (omega (arith, later-on)) (place-exact ds (i + 1) 0 (omega arith) (omega arith))
+                  (run-exact ds (i + 1) 0 ∙ sym (run-bad ds p v i (omega (arith, later-on, known-first ds p v)) l g)) led-slot;
+            }

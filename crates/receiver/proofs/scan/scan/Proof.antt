@@ -1,0 +1,94 @@
+-- `receiver::scan::scan` meets its contract: each turn leads from a place to the next.
+-- Assumes nothing.
+use mathlib.Core.Path.{ap, _∙_}
+use mathlib.Core.List.{List}
+use Prim.Native.Nat.{ℕ, _-_}
+use native.Mathlib.Omega.{arith}
+use lib.ListN.{length}
+use Rattle.control.specs.declared.Decision.{Decision}
+use Rattle.control.specs.Control.{Control}
+use Rattle.control.proofs.Ranges.{control-stage}
+use Rattle.receiver.specs.Places.{decisionsBy, exactly}
+use Rattle.receiver.proofs.Places.{run-place}
+use Rattle.receiver.proofs.Scanning.{window-each, Scanning, scanning-start, scanning-room, scanning-more, scanning-end}
+use Rattle.receiver.proofs.scan.scan.Statement.{statement}
+use Rattle.receiver.proofs.scan.scan.Tie as tie
+
+abbrev Inv-loop : tie.InvT-loop
+Inv-loop head samples weights events₀ run place₀ stage₀ count₀ events place stage count =
+    Scanning (decisionsBy weights head samples) events₀ (record { run = run; stage = stage₀ }) events place stage count
+
+abbrev μ-loop : tie.MeasureT-loop
+μ-loop head samples weights events₀ run place₀ stage₀ count₀ events place stage count = length samples - place .next
+
+module _ (s : tie.Start Inv-loop μ-loop) where
+  abbrev all : List Decision
+  all = decisionsBy (s .args .weights .now) (s .args .head .now) (s .args .samples .now)
+
+  abbrev lent : List ℕ
+  lent = s .args .events .now
+
+  abbrev from : Control
+  from = record { run = s .args .run; stage = s .args .first }
+
+wide-requires : tie.Need-wide-requires Inv-loop μ-loop
+wide-requires c κs = tt
+
+exact-requires : tie.Need-exact-requires Inv-loop μ-loop
+exact-requires c κs = tt
+
+loop-holds : tie.Need-loop-holds Inv-loop μ-loop
+loop-holds c =
+    let s = c .before .before .before in
+    scanning-start (all s) (lent s) (from s) (s .pre .1 .0) (c .exact .result) (c .exact .ensures ∙ ap (exactly 0) (c .before .wide .ensures))
+
+turn-requires : tie.Need-turn-requires Inv-loop μ-loop
+turn-requires c κs =
+    let l = c .before .before in
+    let s = l .before .before .before .before in
+    (s .pre .0, ((l .loop .inv .place, c .if1 .taken), control-stage _ (l .loop .inv .control)))
+
+put-requires : tie.Need-put-requires Inv-loop μ-loop
+put-requires c κs =
+    let t = c .before .before in
+    let l = t .before .before .before in
+    let s = l .before .before .before .before in
+    scanning-room (all s) (lent s) (from s) (l .loop .inv) (t .turn .result) (t .turn .ensures) (s .pre .1 .1)
+
+loop-less : tie.Need-loop-less Inv-loop μ-loop
+loop-less c =
+    let t = c .before .before .before .before .before in
+    omega (arith, t .turn .ensures .later, t .before .if1 .taken)
+
+loop-again : tie.Need-loop-again Inv-loop μ-loop
+loop-again c =
+    let u = c .before .before in
+    let t = u .before .before .before in
+    let l = t .before .before .before in
+    let s = l .before .before .before .before in
+    scanning-more (all s) (lent s) (from s) (l .loop .inv) (t .turn .result) (t .turn .ensures) _ _ (u .put .ensures .0) (u .put .ensures .1)
+
+run-back-requires : tie.Need-run-back-requires Inv-loop μ-loop
+run-back-requires c κs =
+    let l = c .before .before in
+    (l .before .before .before .before .pre .0, l .loop .inv .place)
+
+narrow-requires : tie.Need-narrow-requires Inv-loop μ-loop
+narrow-requires c κs =
+    let l = c .before .before .before in
+    let s = l .before .before .before .before in
+    omega (arith, c .run-back .ensures, run-place (all s) _ (l .loop .inv .place))
+
+same-length : tie.Need-same-length Inv-loop μ-loop
+same-length c = c .before .before .before .before .loop .inv .filled .long
+
+returns : tie.Need-returns Inv-loop μ-loop
+returns c =
+    let o = c .before .before in
+    let l = o .before .before in
+    let s = l .before .before .before .before in
+    scanning-end (all s) (lent s) (from s) (l .loop .inv) (omega (arith, window-each (s .pre .0), o .if1 .left)) (c .narrow .result)
+    (c .narrow .ensures ∙ c .before .run-back .ensures)
+
+pub scan-spec : {M : Type 1} → statement M
+scan-spec = tie.close (tie.spec Inv-loop μ-loop wide-requires exact-requires loop-holds turn-requires put-requires loop-less loop-again run-back-requires narrow-requires same-length returns)

@@ -1,0 +1,103 @@
+-- A block as the code reads it, which judges only the windows that something asks for: the decisions of its windows, places among
+-- them with what is known of the run there, and how a search or a wait goes on from one place to another. The definitions are ours.
+-- Assumes nothing.
+use mathlib.Core.Path.{_≡_}
+use mathlib.Core.Bool.{Bool, false, true, cond}
+use mathlib.Core.List.{List, _++_}
+use Prim.Native.Nat.{ℕ, _+_, _-_, _<_, _≤_}
+use lib.Dec.{leb}
+use lib.IntN.{ℤ}
+use lib.ListN.{length, getD, take, drop}
+use Rattle.tones.specs.Samples.{areSamples}
+use Rattle.control.specs.declared.Decision.{Decision}
+use Rattle.control.specs.declared.Stage.{Stage}
+use Rattle.control.specs.declared.Event.the-variants.{Nothing}
+use Rattle.control.specs.Control.{Control}
+use Rattle.control.specs.Rules.{numbers, isFound, afterSearch, follow, reports, runOver, NoneFound}
+use Rattle.receiver.specs.declared.Place.{Place}
+use Rattle.receiver.specs.declared.Sought.{Sought}
+use Rattle.receiver.specs.declared.Turn.{Turn}
+use Rattle.receiver.specs.Energy.{IsBank, decisionBy}
+use Rattle.receiver.specs.Windows.{decisions}
+
+-- ---- the windows of a block
+
+-- the last 31 samples before the block, which stand in the head behind an older one, and the block
+abbrev pub recorded : List ℤ → List ℤ → List ℤ
+recorded head samples = take 31 (drop 1 head) ++ samples
+
+-- what the code hands to the functions that judge windows
+pub record IsSource (weights head samples : List ℤ) : Type 0 where
+  pub bank : IsBank weights
+  pub inside : areSamples (recorded head samples) ≡ true
+  pub long : length head ≡ 64
+  -- the windows that begin before the block stand in the head
+  pub begun : (i : ℕ) → i < 31 → i < length samples → take 32 (drop (i + 1) head) ≡ take 32 (drop i (recorded head samples))
+
+-- the decisions of its windows; window i ends with sample i
+abbrev pub decisionsBy : List ℤ → List ℤ → List ℤ → List Decision
+decisionsBy weights head samples = decisions (decisionBy weights) (recorded head samples)
+
+-- decision i
+abbrev pub judged : List Decision → ℕ → Decision
+judged ds i = getD ds i (record { good = false; space = false })
+
+-- those from i on, before j
+abbrev pub between : ℕ → ℕ → List Decision → List Decision
+between i j ds = take (j - i) (drop i ds)
+
+-- ---- places
+
+-- what is known at a place
+pub record IsPlace (ds : List Decision) (p : Place) : Type 0 where
+  pub based : p .known ≤ p .good
+  pub passed : p .good ≤ p .next
+  pub inside : p .next ≤ length ds
+  pub low : p .run ≤ 32
+  pub level : (i : ℕ) → p .good ≤ i → i < p .next → judged ds i .good ≡ true
+
+-- the run before decision i, by what is known at the place, and the run at the place
+abbrev pub runBefore : List Decision → Place → ℕ → ℕ
+runBefore ds p i = runOver (p .run) (between (p .known) i ds)
+
+abbrev pub runAt : List Decision → Place → ℕ
+runAt ds p = runBefore ds p (p .next)
+
+abbrev pub controlAt : List Decision → Place → Stage → Control
+controlAt ds p stage = record { run = runAt ds p; stage = stage }
+
+-- before decision i, where the run is known
+abbrev pub exactly : ℕ → ℕ → Place
+exactly i run = record { next = i; known = i; run = run; good = i }
+
+-- before decision i, where the run is known as at p
+abbrev pub movedTo : Place → ℕ → ℕ → Place
+movedTo p i good = record { next = i; known = p .known; run = p .run; good = good }
+
+-- at the first decision from p on after which the run can be 32
+abbrev pub skipped : Place → Place
+skipped p = let first : ℕ = p .known + (31 - p .run) in cond (leb first (p .next)) p (movedTo p first first)
+
+-- ---- from one place to another
+
+-- A search for a tone went on from the place p: none of the decisions before the last one ends it, and `found` says whether the last does.
+pub record Seeks (ds : List Decision) (p : Place) (space : Bool) (s : Sought) : Type 0 where
+  pub later : p .next < s .place .next
+  pub place : IsPlace ds (s .place)
+  pub run : runAt ds (s .place) ≡ runBefore ds p (s .place .next)
+  pub none : NoneFound space (runAt ds p) (between (p .next) (s .place .next - 1) ds)
+  pub last : s .found ≡ isFound space (runAt ds (s .place)) (judged ds (s .place .next - 1))
+
+abbrev pub missedAt : Place → Sought
+missedAt p = record { place = p; found = false }
+
+-- what a search for a start comes to
+abbrev pub soughtTo : Sought → Turn
+soughtTo s = record { place = s .place; stage = afterSearch (s .found); event = Nothing }
+
+-- Reading on from the place p comes to the place and the stage of t, and brings its event.
+pub record Onward (ds : List Decision) (p : Place) (stage : Stage) (t : Turn) : Type 0 where
+  pub later : p .next < t .place .next
+  pub place : IsPlace ds (t .place)
+  pub control : follow (controlAt ds p stage) (between (p .next) (t .place .next) ds) ≡ controlAt ds (t .place) (t .stage)
+  pub events : reports (controlAt ds p stage) (between (p .next) (t .place .next) ds) ≡ numbers (t .event)

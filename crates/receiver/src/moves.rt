@@ -1,0 +1,60 @@
+// Places in a block: how far it is read, and what is known of the run there.
+ghost use mathlib.Core.Path.{_≡_};
+ghost use Prim.Native.Nat.{_-_, _<_, min, max};
+ghost use Rattle.receiver.specs.Places.{exactly, movedTo, skipped};
+use super::Place;
+
+// Before a window, where the run is known.
+pub(crate) fn exact(next: usize, run: usize) -> Place
+    ensures { λ r. ⌜ r ≡ exactly next run ⌝ }
+{
+    Place {
+        next,
+        known: next,
+        run,
+        good: next,
+    }
+}
+
+// Further on, where the run is known as at the place.
+pub(crate) fn moved(place: Place, next: usize, good: usize) -> Place
+    ensures { λ r. ⌜ r ≡ movedTo place next good ⌝ }
+{
+    Place {
+        next,
+        known: place.known,
+        run: place.run,
+        good,
+    }
+}
+
+// At the first window after which the run can be 32. The windows that are passed over are not judged.
+pub(crate) fn skip(place: Place) -> Place
+    requires { ⌜ place .known < 9223372036854775808 ⌝ }
+    ensures { λ r. ⌜ r ≡ skipped place ⌝ }
+{
+    let first = place.known + less(31, place.run);
+    if first <= place.next {
+        place
+    } else {
+        moved(place, first, first)
+    }
+}
+
+pub(crate) fn later(a: usize, b: usize) -> usize
+    ensures { λ r. ⌜ r ≡ max a b ⌝ }
+{
+    if a < b { b } else { a }
+}
+
+pub(crate) fn earlier(a: usize, b: usize) -> usize
+    ensures { λ r. ⌜ r ≡ min a b ⌝ }
+{
+    if a < b { a } else { b }
+}
+
+pub(crate) fn less(a: usize, b: usize) -> usize
+    ensures { λ r. ⌜ r ≡ a - b ⌝ }
+{
+    if a < b { 0 } else { a - b }
+}

@@ -1,0 +1,159 @@
+// A block is read from place to place. It has a window for each sample, and only those are judged whose decision something asks for:
+// while the receiver waits, that of the slot; while it searches, those after which the run can be 32; for the run, the last ones.
+ghost use mathlib.Core.Path.{_≡_};
+ghost use mathlib.Core.Bool.{true};
+ghost use Prim.Native.Nat.{_+_, _<_, _≤_};
+ghost use lib.ListN.{length};
+ghost use lib.Seq.{sets};
+ghost use Rattle.control.specs.declared.Stage.the-variants.{Waiting};
+ghost use Rattle.control.specs.Control.{isControl, isStage};
+ghost use Rattle.control.specs.Rules.{numbers, reports};
+ghost use Rattle.receiver.specs.Windows.{progressed};
+ghost use Rattle.receiver.specs.Places.{IsSource, decisionsBy, IsPlace, soughtTo, Onward};
+use super::Place;
+use super::Progress;
+use super::Sought;
+use super::Turn;
+use super::energy;
+use super::moves;
+use super::seek;
+use control::Event;
+use control::Stage;
+
+// Reads a block from a run and a stage on, and writes its events. The run at the end is part of the next state.
+pub(crate) fn scan(
+    head: &[i16],
+    samples: &[i16],
+    weights: &[i16],
+    events: &mut [u16],
+    run: u8,
+    first: Stage,
+) -> Progress
+    requires { ⌜ IsSource (now weights) (now head) (now samples) ⌝ }
+    requires { ⌜ isControl (record { run = run; stage = first }) ≡ true ⌝ }
+    requires { ⌜ length (reports (record { run = run; stage = first }) (decisionsBy (now weights) (now head) (now samples))) ≤ length (now events) ⌝ }
+    ensures reached { λ r. ⌜ r ≡ progressed (record { run = run; stage = first })
+        (decisionsBy (now (weights .entry)) (now (head .entry)) (now (samples .entry))) ⌝ }
+    ensures lent { λ r. ⌜ now (events .exit) ≡ sets (now (events .entry)) 0 (reports (record { run = run; stage = first })
+        (decisionsBy (now (weights .entry)) (now (head .entry)) (now (samples .entry)))) ⌝ }
+{
+    let mut place = moves::exact(0, wide(run));
+    let mut stage = first;
+    let mut count: usize = 0;
+    while place.next < samples.len() {
+        let t = turn(head, samples, weights, place, stage);
+        let to = t.place;
+        let then = t.stage;
+        let event = t.event;
+        count = put(events, count, event);
+        place = to;
+        stage = then;
+    }
+    Progress {
+        run: narrow(seek::run_back(head, samples, weights, place)),
+        stage,
+        count,
+    }
+}
+
+// Goes on with the stage: a search as far as `seek` goes, or a wait to its slot.
+fn turn(head: &[i16], samples: &[i16], weights: &[i16], place: Place, stage: Stage) -> Turn
+    requires { ⌜ IsSource (now weights) (now head) (now samples) ⌝ }
+    requires { ⌜ IsPlace (decisionsBy (now weights) (now head) (now samples)) place × (place .next < length (now samples)) ⌝ }
+    requires { ⌜ isStage stage ≡ true ⌝ }
+    ensures { λ r. ⌜ Onward (decisionsBy (now (weights .entry)) (now (head .entry)) (now (samples .entry))) place stage r ⌝ }
+{
+    match stage {
+        Stage::Searching => searched(seek::seek(head, samples, weights, place, true)),
+        Stage::Waiting { wait, slot, byte } => {
+            wait_for(head, samples, weights, place, wait, slot, byte)
+        }
+    }
+}
+
+// What a search for a start comes to. It tells nothing.
+fn searched(s: Sought) -> Turn
+    ensures { λ r. ⌜ r ≡ soughtTo s ⌝ }
+{
+    let place = s.place;
+    Turn {
+        place,
+        stage: control::search(s.found),
+        event: Event::Nothing,
+    }
+}
+
+// A wait goes on to its slot, or to the end of the block. Only the window of the slot is judged.
+fn wait_for(
+    head: &[i16],
+    samples: &[i16],
+    weights: &[i16],
+    place: Place,
+    wait: u8,
+    slot: u8,
+    byte: u8,
+) -> Turn
+    requires { ⌜ IsSource (now weights) (now head) (now samples) ⌝ }
+    requires { ⌜ IsPlace (decisionsBy (now weights) (now head) (now samples)) place × (place .next < length (now samples)) ⌝ }
+    requires { ⌜ isStage (Waiting wait slot byte) ≡ true ⌝ }
+    ensures { λ r. ⌜ Onward (decisionsBy (now (weights .entry)) (now (head .entry)) (now (samples .entry))) place (Waiting wait slot byte) r ⌝ }
+{
+    let end = samples.len();
+    let i = place.next + wide(wait) - 1;
+    if end <= i {
+        let left = i + 1 - end;
+        return Turn {
+            place: moves::moved(place, end, end),
+            stage: Stage::Waiting {
+                wait: narrow(left),
+                slot,
+                byte,
+            },
+            event: Event::Nothing,
+        };
+    }
+    let d = energy::judge(head, samples, weights, i);
+    let n = control::take(Stage::Waiting { wait, slot, byte }, d);
+    let then = n.stage;
+    let event = n.event;
+    if !d.good {
+        return Turn {
+            place: moves::exact(i + 1, 0),
+            stage: then,
+            event,
+        };
+    }
+    Turn {
+        place: moves::moved(place, i + 1, i),
+        stage: then,
+        event,
+    }
+}
+
+// Writes the event, if there is one, to the place `at`, and gives the place behind it.
+fn put(events: &mut [u16], at: usize, event: Event) -> usize
+    requires { ⌜ at + length (numbers event) ≤ length (now events) ⌝ }
+    ensures count { λ r. ⌜ r ≡ at + length (numbers event) ⌝ }
+    ensures lent { λ r. ⌜ now (events .exit) ≡ sets (now (events .entry)) at (numbers event) ⌝ }
+{
+    match event {
+        Event::Nothing => at,
+        Event::Number(number) => {
+            events[at] = number;
+            at + 1
+        }
+    }
+}
+
+fn wide(x: u8) -> usize
+    ensures { λ r. ⌜ r ≡ x ⌝ }
+{
+    x as usize
+}
+
+fn narrow(x: usize) -> u8
+    requires { ⌜ x ≤ 32 ⌝ }
+    ensures { λ r. ⌜ r ≡ x ⌝ }
+{
+    x as u8
+}

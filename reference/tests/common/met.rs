@@ -1,0 +1,99 @@
+//! What readings have brought: a test that met too little would show nothing.
+
+use super::receiver::{compare_accepted, read_by, Reading, CARRIER_LOST, NO_STOP_BIT};
+use reference::library::Numbers;
+
+/// How many events are characters, lack a stop bit or tell a lost carrier.
+pub fn kinds(events: &[u16]) -> [usize; 3] {
+    let mut kinds = [0; 3];
+    for &event in events {
+        kinds[match event {
+            0..=255 => 0,
+            NO_STOP_BIT => 1,
+            CARRIER_LOST => 2,
+            _ => panic!("event {event}"),
+        }] += 1;
+    }
+    kinds
+}
+
+/// At least so many characters, missing stop bits and lost carriers.
+pub fn assert_frequent(kinds: [usize; 3], least: [usize; 3]) {
+    let enough = (0..3).all(|kind| kinds[kind] >= least[kind]);
+    assert!(enough, "{kinds:?} is too rare for {least:?}");
+}
+
+/// Counts of the events, and of the states that the library left behind blocks
+/// of one sample or more. An empty block leaves what it was handed.
+pub struct Met {
+    pub kinds: [usize; 3],
+    /// The states that search and those that wait, by run.
+    runs: [Counts; 2],
+    /// The states that wait, by slot and wait.
+    waits: [Counts; 10],
+}
+
+/// For each number from 0 to 32.
+type Counts = [usize; 33];
+
+impl Met {
+    pub fn new() -> Met {
+        Met {
+            kinds: [0; 3],
+            runs: [[0; 33]; 2],
+            waits: [[0; 33]; 10],
+        }
+    }
+
+    fn count(&mut self, samples: &[i16], reading: &Reading) {
+        for (all, kind) in self.kinds.iter_mut().zip(kinds(reading.events())) {
+            *all += kind;
+        }
+        if !samples.is_empty() {
+            let Numbers { run, stage, .. } = reading.answer.state;
+            let [first, wait, slot, _] = stage.map(usize::from);
+            self.runs[first][usize::from(run)] += 1;
+            self.waits[slot][wait] += first;
+        }
+    }
+
+    pub fn compare(&mut self, state: Numbers, samples: &[i16]) -> Reading {
+        let reading = compare_accepted(state, samples);
+        self.count(samples, &reading);
+        reading
+    }
+
+    /// The events of the blocks joined, and the state after the last one.
+    pub fn read_on<'a>(
+        &mut self,
+        state: Numbers,
+        blocks: impl IntoIterator<Item = &'a [i16]>,
+    ) -> (Vec<u16>, Numbers) {
+        read_by(state, blocks, |state, samples| self.compare(state, samples))
+    }
+
+    /// States that search had every run, each at least so often.
+    pub fn assert_searching_runs(&self, least: usize) {
+        assert_each("run while searching", &self.runs[0], 0, least);
+    }
+
+    /// The same of states that wait.
+    pub fn assert_waiting_runs(&self, least: usize) {
+        assert_each("run while waiting", &self.runs[1], 0, least);
+    }
+
+    /// Every wait for every slot was met at least so often.
+    pub fn assert_waits(&self, least: usize) {
+        for (slot, waits) in self.waits.iter().enumerate() {
+            let waits = if slot == 0 { &waits[..17] } else { &waits[..] };
+            assert_each(&format!("wait for slot {slot}"), waits, 1, least);
+        }
+    }
+}
+
+/// Each number from `first` on was met at least so often.
+fn assert_each(what: &str, counts: &[usize], first: usize, least: usize) {
+    for (number, &count) in counts.iter().enumerate().skip(first) {
+        assert!(count >= least, "{what} {number}: {count}, not {least}");
+    }
+}
