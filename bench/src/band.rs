@@ -19,10 +19,9 @@ const LENGTHS: [usize; 3] = [100_000, 10_000, 1_000];
 pub const SAMPLES: usize = 2_000 * 1_920;
 /// How many calls of one sample or none are made.
 const CALLS: usize = 300_000;
-/// Telephone programs hand over 20 ms at a time, of 8,000 samples a second. The
-/// other sizes show what a call costs.
+/// Telephone programs hand over 20 ms at a time, of 8,000 samples a second.
 const SMALL: usize = 160;
-const OTHER_SIZES: [usize; 4] = [1, 32, 1_024, BLOCK];
+const SIZES: [usize; 5] = [BLOCK, 1_024, SMALL, 32, 1];
 
 /// A long recording is read about as fast as a short one, so the time grows in
 /// proportion to the length.
@@ -69,7 +68,8 @@ impl Band<'_> {
             self.silence(&Recording::silence(sines, band, SAMPLES)),
             self.noise(&Recording::noise(sines, band, SAMPLES)),
             self.idle_mark(&Recording::idle_mark(sines, band, SAMPLES)),
-            self.blocks(&sendings[1]),
+            self.small_blocks(&sendings[0]),
+            self.block_sizes(&sendings[1]),
             self.calls("no samples", 0),
             self.calls("one sample", 1),
         ];
@@ -83,8 +83,7 @@ impl Band<'_> {
             Entry::new(name, readers::library(BLOCK), shorter).with(GROWTH)
         }));
         let peer = |peer, least| self.peer(peer, long, BLOCK).with(Bar::at_least(least));
-        // At most 1.4 times as long as the same method takes without a proof.
-        entries.push(peer(ASKED_WINDOWS, 0.71));
+        entries.push(self.same_method(long));
         entries.push(peer(IN_PLACE, 4.0));
         entries.push(peer(SHIFTED_WINDOW, 8.0));
         entries.extend(spandsp("spandsp", long, BLOCK, Bar::at_least(10.0)));
@@ -94,33 +93,38 @@ impl Band<'_> {
 
     fn silence(&self, silence: &Recording) -> bool {
         let in_place = self.peer(IN_PLACE, silence, BLOCK);
-        let mut entries = vec![library(silence), in_place.with(Bar::at_least(12.0))];
+        let mut entries = vec![library(silence), self.same_method(silence)];
+        entries.push(in_place.with(Bar::at_least(12.0)));
         entries.extend(spandsp("spandsp", silence, BLOCK, Bar::at_least(25.0)));
         self.print("silence", Unit::Speed, &entries)
     }
 
     fn noise(&self, noise: &Recording) -> bool {
-        let mut entries = vec![library(noise)];
+        let mut entries = vec![library(noise), self.same_method(noise)];
         entries.extend(spandsp("spandsp", noise, BLOCK, Bar::at_least(5.0)));
         self.print("noise", Unit::Speed, &entries)
     }
 
-    /// Here the library too weighs every window.
+    /// Here the library too weighs every window. When it did so everywhere, it
+    /// read 0.88 times as fast as the same method.
     fn idle_mark(&self, mark: &Recording) -> bool {
+        let same = self.peer(ASKED_WINDOWS, mark, BLOCK);
         let in_place = self.peer(IN_PLACE, mark, BLOCK);
-        let entries = [library(mark), in_place.with(Bar::at_least(0.9))];
+        let mut entries = vec![library(mark), same.with(Bar::at_least(0.95))];
+        entries.push(in_place.with(Bar::at_least(1.0)));
+        entries.extend(spandsp("spandsp", mark, BLOCK, Bar::at_least(1.7)));
         self.print("idle mark", Unit::Speed, &entries)
     }
 
-    fn blocks(&self, sending: &Recording) -> bool {
-        let library = |size| {
-            let name = format!("library, blocks of {size}");
-            Entry::new(name, readers::library(size), sending)
-        };
-        let name = format!("spandsp, blocks of {SMALL}");
-        let mut entries = vec![library(SMALL)];
-        entries.extend(spandsp(&name, sending, SMALL, Bar::at_least(2.5)));
-        entries.extend(OTHER_SIZES.map(library));
+    fn small_blocks(&self, long: &Recording) -> bool {
+        let mut entries = vec![in_blocks(SMALL, long)];
+        entries.extend(spandsp("spandsp", long, SMALL, Bar::at_least(2.5)));
+        self.print(&format!("blocks of {SMALL}"), Unit::Speed, &entries)
+    }
+
+    /// What small blocks cost. There is no bar for it.
+    fn block_sizes(&self, shorter: &Recording) -> bool {
+        let entries = SIZES.map(|size| in_blocks(size, shorter));
         self.print(&format!("{} characters", LENGTHS[1]), Unit::Speed, &entries)
     }
 
@@ -129,7 +133,8 @@ impl Band<'_> {
     fn calls(&self, samples: &str, size: usize) -> bool {
         let silence = Recording::of(self.sines, self.band, vec![0; CALLS]);
         let library = Entry::new("library", readers::library(size), &silence);
-        let entries = [library, self.peer(ASKED_WINDOWS, &silence, size)];
+        let peer = self.peer(ASKED_WINDOWS, &silence, size);
+        let entries = [library, peer.with(Bar::at_least(0.71))];
         self.print(&format!("calls of {samples}"), Unit::Call, &entries)
     }
 
@@ -140,6 +145,13 @@ impl Band<'_> {
     fn peer<'a>(&'a self, peer: Peer, recording: &'a Recording, size: usize) -> Entry<'a> {
         let reader = readers::reference(self.sines, peer.block, size);
         Entry::new(peer.name, reader, recording)
+    }
+
+    /// The library takes at most 1.4 times as long as its method does without a
+    /// proof.
+    fn same_method<'a>(&'a self, recording: &'a Recording) -> Entry<'a> {
+        let peer = self.peer(ASKED_WINDOWS, recording, BLOCK);
+        peer.with(Bar::at_least(0.71))
     }
 
     /// None where minimodem is not installed.
@@ -153,6 +165,11 @@ impl Band<'_> {
 
 fn library(recording: &Recording) -> Entry<'_> {
     Entry::new("library", readers::library(BLOCK), recording)
+}
+
+fn in_blocks(size: usize, recording: &Recording) -> Entry<'_> {
+    let name = format!("library, blocks of {size}");
+    Entry::new(name, readers::library(size), recording)
 }
 
 /// None where spandsp is not installed.

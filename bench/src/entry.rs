@@ -4,8 +4,12 @@ use crate::readers::{Reader, Reading};
 use crate::recording::Recording;
 use crate::score::Score;
 use crate::table::{self, Bar, Row, Unit};
+use std::time::Instant;
 
+/// How many rounds a table takes at least, and how many seconds: so something
+/// else that the machine does for a second or two does not meet all rounds.
 pub const ROUNDS: usize = 12;
+pub const SECONDS: u64 = 6;
 
 /// A reader with its recording. The bar is for the first entry's speed in terms
 /// of this one's.
@@ -67,11 +71,14 @@ impl<'a> Entry<'a> {
 pub fn measure(title: &str, unit: Unit, entries: &[Entry]) -> bool {
     let longest = entries.iter().map(Entry::length).max().unwrap_or(0);
     let times = |entry: &Entry| longest.div_ceil(entry.length());
+    let start = Instant::now();
     let mut best: Vec<Reading> = entries.iter().map(|e| e.read(times(e))).collect();
-    for _ in 1..ROUNDS {
+    let mut rounds = 1;
+    while rounds < ROUNDS || start.elapsed().as_secs() < SECONDS {
         for (entry, best) in entries.iter().zip(&mut best) {
             best.time = entry.read(times(entry)).time.min(best.time);
         }
+        rounds += 1;
     }
     let both = entries.iter().zip(&best);
     let rows: Vec<Row> = both.map(|(e, best)| e.row(best, times(e))).collect();

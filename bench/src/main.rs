@@ -20,7 +20,7 @@ mod spandsp;
 mod table;
 
 use band::{Band, SAMPLES};
-use entry::ROUNDS;
+use entry::{ROUNDS, SECONDS};
 use readers::BLOCK;
 use recording::{DISTURBANCE, SEED};
 use reference::receiver::LARGEST_SAMPLE;
@@ -40,7 +40,7 @@ fn say_what_is_measured() {
          noise from -{LARGEST_SAMPLE} to {LARGEST_SAMPLE}"
     );
     println!(
-        "in CPU time, the best of {ROUNDS} rounds in which all of a table take turns; \
+        "in CPU time, the best of {ROUNDS} rounds or more, for {SECONDS} seconds or more, in which all of a table take turns; \
          blocks of {BLOCK} samples, if not told"
     );
     println!("first to it: the speed of the table's first line, as a multiple of this one's");

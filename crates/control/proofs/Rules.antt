@@ -1,17 +1,20 @@
 -- The cases of the rules, each an equation under the tests that lead to it.
 -- Assumes nothing.
 use mathlib.Core.Path.{_≡_, refl, _∙_}
-use mathlib.Core.Bool.{Bool, true, false, and-false, Bool·beq}
+use mathlib.Core.Bool.{Bool, true, false, cond, and-false, Bool·beq}
 use Prim.Native.Nat.{ℕ, _+_, _-_, _<_, _≤_}
 use native.Mathlib.Omega.{arith}
 use borrow.Author.Tests.{le-leb, lt-leb, eq-eqb, ne-eqb}
 use lib.Dec.{leb, eqb}
 use Rattle.integers.proofs.Tests.{cond-case}
 use Rattle.control.specs.declared.Decision.{Decision}
+use Rattle.control.specs.declared.Asked.{Asked}
+use Rattle.control.specs.declared.Asked.the-variants.{Tone, Slot}
 use Rattle.control.specs.declared.Next.{Next}
+use Rattle.control.specs.declared.Stage.{Stage}
 use Rattle.control.specs.declared.Stage.the-variants.{Searching, Waiting}
 use Rattle.control.specs.Control.{Control, isSlot}
-use Rattle.control.specs.Rules.{carrierLost, noStop, numbers, quiet, report, runAfter, gathered, taken, nextOf, isFound, afterSearch, waitOver, controlAfter, reported}
+use Rattle.control.specs.Rules.{carrierLost, noStop, numbers, quiet, report, runAfter, gathered, taken, nextOf, isFound, askedBy, waitOver, controlAfter, reported}
 
 -- ---- the run
 
@@ -80,12 +83,25 @@ module _ (run : ℕ) (d : Decision) where
     wait-taken e = rw e
 
   -- in the parts that the code has
-  pub search-parts : nextOf Searching run d ≡ quiet (afterSearch (isFound true run d))
-  unfolding nextOf
-  search-parts = rw (same-true (d .space))
-
-  pub wait-parts : (wait slot byte : ℕ) → wait ≡ 1 → isSlot slot byte ≡ true → nextOf (Waiting wait slot byte) run d ≡ waitOver (Waiting wait slot byte) d
+  pub wait-parts : (wait slot byte : ℕ) → wait ≡ 1 → isSlot slot byte ≡ true → nextOf (Waiting wait slot byte) run d ≡ waitOver slot byte d
   wait-parts wait slot byte e h = wait-taken wait slot byte e ∙ rw h
+
+-- a stage that is a search: it stays until a decision ends it, which leads to the stage `next`; there is no event
+pub record IsSearch (space : Bool) (stage next : Stage) : Type 0 where
+  pub step : (run : ℕ) (d : Decision) → nextOf stage run d ≡ quiet (cond (isFound space run d) next stage)
+
+-- a stage goes on by what it asks for
+abbrev pub Asks : Stage → Asked → Type 0
+Asks stage (Tone space next) = IsSearch space stage next
+Asks stage (Slot wait slot byte) = stage ≡ Waiting wait slot byte
+
+asks-by : (stage : Stage) → Asks stage (askedBy stage)
+unfolding nextOf
+asks-by Searching = record { step = λ run d. rw (same-true (d .space)) }
+asks-by (Waiting wait slot byte) = refl
+
+pub asks : (stage : Stage) (a : Asked) → a ≡ askedBy stage → Asks stage a
+asks stage a e = rw e (asks-by stage)
 
 -- ---- run and stage after a decision, and its events
 

@@ -2,7 +2,7 @@
 -- that none of the decisions ends.
 -- Assumes nothing.
 use mathlib.Core.Path.{_≡_, refl, sym, ap, _∙_}
-use mathlib.Core.Bool.{Bool, true, false, cond, and-false, Bool·beq}
+use mathlib.Core.Bool.{Bool, false, and-false, Bool·beq}
 use mathlib.Core.List.{List, [], _∷_, _++_, append-nil}
 use Prim.Native.Nat.{ℕ, suc, _+_, _-_, _<_, _≤_, min}
 use native.Mathlib.Omega.{arith}
@@ -15,10 +15,10 @@ use Rattle.calls.proofs.Runs.{run-laws}
 use Rattle.control.specs.declared.Decision.{Decision}
 use Rattle.control.specs.declared.Next.{Next}
 use Rattle.control.specs.declared.Stage.{Stage}
-use Rattle.control.specs.declared.Stage.the-variants.{Searching, Waiting}
+use Rattle.control.specs.declared.Stage.the-variants.{Waiting}
 use Rattle.control.specs.Control.{Control}
 use Rattle.control.specs.Rules.{numbers, quiet, runAfter, nextOf, isFound, controlAfter, reported, follow, reports, runOver, NoneFound}
-use Rattle.control.proofs.Rules.{control-after, events-reported, search-parts, wait-more}
+use Rattle.control.proofs.Rules.{wait-more, IsSearch, control-after, events-reported}
 
 -- ---- the run
 
@@ -128,17 +128,10 @@ waits run wait slot byte (d ∷ ds) h =
     (lead-next run (Waiting wait slot byte) (Waiting (wait - 1) slot byte) d ds (wait-more (runAfter run (d .good)) d wait slot byte (omega arith))
     (waits (runAfter run (d .good)) (wait - 1) slot byte ds (omega arith)))
 
--- a stage that is a search: until a decision with run 32 and the tone, which leads to the stage `found`, it stays and tells nothing
-pub record IsSearch (space : Bool) (stage found : Stage) : Type 0 where
-  pub step : (run : ℕ) (d : Decision) → nextOf stage run d ≡ quiet (cond (isFound space run d) found stage)
-
-pub start-search : IsSearch true Searching (Waiting 16 0 0)
-start-search = record { step = search-parts }
-
--- none of them ends it
-pub searches : {space : Bool} {stage found : Stage} → IsSearch space stage found → (run : ℕ) (ds : List Decision) → NoneFound space run ds
-    → Leads (record { run = run; stage = stage }) ds (runOver run ds) stage []
-unfolding after gives NoneFound
-searches k run [] h = record { control = refl; told = refl }
-searches {stage = stage} k run (d ∷ ds) h =
-    lead-next run stage stage d ds (k .step (runAfter run (d .good)) d ∙ rw (h .0)) (searches k (runAfter run (d .good)) ds (h .1))
+-- a search that none of them ends
+module _ {space : Bool} {stage next : Stage} (k : IsSearch space stage next) where
+  pub searches : (run : ℕ) (ds : List Decision) → NoneFound space run ds → Leads (record { run = run; stage = stage }) ds (runOver run ds) stage []
+  unfolding after gives NoneFound
+  searches run [] h = record { control = refl; told = refl }
+  searches run (d ∷ ds) h =
+      lead-next run stage stage d ds (k .step (runAfter run (d .good)) d ∙ rw (h .0)) (searches (runAfter run (d .good)) ds (h .1))

@@ -1,7 +1,7 @@
 -- What a decision does to run and stage, and its event: document 01, "Reader, step by step", rules 3 to 5, as decision 17 reads them.
 -- Assumes nothing.
 use mathlib.Core.Path.{_≡_}
-use mathlib.Core.Bool.{Bool, false, cond, not, _&&_, Bool·beq}
+use mathlib.Core.Bool.{Bool, true, false, cond, not, _&&_, Bool·beq}
 use mathlib.Core.List.{List, [], _∷_}
 use Prim.Native.Nat.{ℕ, _+_, _-_, _^_, min}
 use lib.Dec.{leb, eqb}
@@ -11,6 +11,8 @@ use Rattle.control.specs.declared.Stage.{Stage}
 use Rattle.control.specs.declared.Stage.the-variants.{Searching, Waiting}
 use Rattle.control.specs.declared.Event.{Event}
 use Rattle.control.specs.declared.Event.the-variants.{Nothing, Number}
+use Rattle.control.specs.declared.Asked.{Asked}
+use Rattle.control.specs.declared.Asked.the-variants.{Tone, Slot}
 use Rattle.control.specs.declared.Next.{Next}
 use Rattle.control.specs.Control.{Control, isSlot}
 
@@ -81,14 +83,14 @@ nextOf (Waiting wait slot byte) run d = cond (eqb (wait - 1) 0) (taken slot byte
 abbrev pub isFound : Bool → ℕ → Decision → Bool
 isFound space run d = eqb run 32 && Bool·beq (d .space) space
 
--- what the search for a start comes to
-abbrev pub afterSearch : Bool → Stage
-afterSearch found = cond found (Waiting 16 0 0) Searching
+-- what a stage asks for
+abbrev pub askedBy : Stage → Asked
+askedBy Searching = Tone true (Waiting 16 0 0)
+askedBy (Waiting wait slot byte) = Slot wait slot byte
 
--- what a wait ends in; a slot out of its ranges, of which document 01 says nothing, is given up
-abbrev pub waitOver : Stage → Decision → Next
-waitOver Searching d = quiet Searching
-waitOver (Waiting wait slot byte) d = cond (isSlot slot byte) (taken slot byte d) (quiet Searching)
+-- what the wait for a slot ends in; a slot out of its ranges, of which document 01 says nothing, is given up
+abbrev pub waitOver : ℕ → ℕ → Decision → Next
+waitOver slot byte d = cond (isSlot slot byte) (taken slot byte d) (quiet Searching)
 
 -- ---- decisions
 

@@ -1,8 +1,8 @@
 // What decisions do to a receiver: to its run and its stage, and which events they bring. How a window comes to its decision is
-// not known here. Every function takes every value of its types: a stage out of its ranges is given up when its wait ends.
+// not known here. Every function takes every value of its types: a slot out of its ranges is given up when its wait ends.
 ghost use mathlib.Core.Path.{_≡_};
 ghost use Rattle.control.specs.Control.{isStage, isControl};
-ghost use Rattle.control.specs.Rules.{isFound, afterSearch, waitOver};
+ghost use Rattle.control.specs.Rules.{isFound, askedBy, waitOver};
 
 mod slot;
 
@@ -25,6 +25,13 @@ pub enum Event {
     Number(u16),
 }
 
+// What a stage asks for: it stays as it is until a decision with run 32 and a tone (space above mark, or not), which leads to the stage
+// `then`; or it waits for a slot.
+pub enum Asked {
+    Tone { space: bool, then: Stage },
+    Slot { wait: u8, slot: u8, byte: u8 },
+}
+
 // The stage after a sample, and its event.
 pub struct Next {
     pub stage: Stage,
@@ -38,34 +45,31 @@ pub fn is_found(space: bool, run: usize, d: Decision) -> bool
     run == 32 && d.space == space
 }
 
-// What a search for a start bit comes to: the middle of the bit is 16 samples away.
-pub fn search(found: bool) -> Stage
-    ensures { λ r. ⌜ r ≡ afterSearch found ⌝ }
+// What a stage asks for. The middle of a start bit is 16 samples behind its beginning.
+pub fn asks_for(stage: Stage) -> Asked
+    ensures { λ r. ⌜ r ≡ askedBy stage ⌝ }
 {
-    if found {
-        Stage::Waiting {
-            wait: 16,
-            slot: 0,
-            byte: 0,
-        }
-    } else {
-        Stage::Searching
+    match stage {
+        Stage::Searching => Asked::Tone {
+            space: true,
+            then: Stage::Waiting {
+                wait: 16,
+                slot: 0,
+                byte: 0,
+            },
+        },
+        Stage::Waiting { wait, slot, byte } => Asked::Slot { wait, slot, byte },
     }
 }
 
-// The stage after a sample at which a wait ends, and the event. A search waits for nothing, and goes on.
-pub fn take(stage: Stage, d: Decision) -> Next
-    ensures { λ r. ⌜ r ≡ waitOver stage d ⌝ }
+// The stage after the sample at which a wait for a slot ends, and the event.
+pub fn take(slot: u8, byte: u8, d: Decision) -> Next
+    ensures { λ r. ⌜ r ≡ waitOver slot byte d ⌝ }
 {
-    match stage {
-        Stage::Searching => slot::searching(),
-        Stage::Waiting { wait, slot, byte } => {
-            if slot::is_slot(slot, byte) {
-                slot::take_slot(slot, byte, d)
-            } else {
-                slot::searching()
-            }
-        }
+    if slot::is_slot(slot, byte) {
+        slot::take_slot(slot, byte, d)
+    } else {
+        slot::searching()
     }
 }
 

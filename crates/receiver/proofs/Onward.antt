@@ -17,24 +17,24 @@ use Rattle.control.specs.declared.Stage.{Stage}
 use Rattle.control.specs.declared.Stage.the-variants.{Waiting}
 use Rattle.control.specs.Control.{isStage}
 use Rattle.control.specs.Rules.{numbers, quiet, isFound, nextOf, waitOver, runOver, NoneFound}
-use Rattle.control.proofs.Rules.{wait-parts}
+use Rattle.control.proofs.Rules.{wait-parts, IsSearch}
 use Rattle.control.proofs.Ranges.{wait-low, stage-wait, stage-slot}
-use Rattle.control.proofs.Stretches.{Leads, run-low, found-other, none-short, none-more, none-last, lead-more, waits, IsSearch, searches}
+use Rattle.control.proofs.Stretches.{Leads, run-low, found-other, none-short, none-more, none-last, lead-more, waits, searches}
 use Rattle.receiver.specs.declared.Place.{Place}
 use Rattle.receiver.specs.declared.Sought.{Sought}
 use Rattle.receiver.specs.declared.Turn.{Turn}
-use Rattle.receiver.specs.Places.{judged, between, IsPlace, runBefore, runAt, controlAt, exactly, movedTo, skipped, Seeks, missedAt, Onward}
+use Rattle.receiver.specs.Places.{judged, between, IsPlace, runBefore, runAt, controlAt, exactly, movedTo, skipped, Seeks, missedAt, soughtTo, Onward}
 use Rattle.receiver.proofs.Places.{between-same, between-more, length-between, place-exact, run-exact, known-first, place-moved, place-more, run-on, run-more, run-bad, run-most}
 
 module _ (ds : List Decision) (p : Place) where
   -- before decision i none has ended a search
-  pub record Seeking (space : Bool) (i good : ℕ) : Type 0 where
+  pub record Seeking (space : Bool) (i since : ℕ) : Type 0 where
     pub later : p .next ≤ i
-    pub place : IsPlace ds (movedTo p i good)
+    pub place : IsPlace ds (movedTo p i since)
     pub none : NoneFound space (runAt ds p) (between (p .next) i ds)
 
   -- the slot of a wait is taken at i, with a good level or without one
-  pub record Slot (stage : Stage) (i : ℕ) (n : Next) : Type 0 where
+  pub record SlotTaken (stage : Stage) (i : ℕ) (n : Next) : Type 0 where
     pub good : judged ds i .good ≡ true → Onward ds p stage (record { place = movedTo p (i + 1) i; stage = n .stage; event = n .event })
     pub bad : judged ds i .good ≡ false → Onward ds p stage (record { place = exactly (i + 1) 0; stage = n .stage; event = n .event })
 
@@ -43,7 +43,7 @@ module _ (ds : List Decision) (p : Place) where
 
     module _ (space : Bool) where
       -- none ends it before the run can be 32
-      seek-over : (i : ℕ) → p .next < i → i ≤ length ds → i ≤ p .known + (31 - p .run) → Seeking space i i
+      seek-over : (i : ℕ) → p .next < i → i ≤ length ds → i ≤ p .known + (31 - p .ran) → Seeking space i i
       seek-over i h l f =
           record {
             later = omega arith;
@@ -53,17 +53,17 @@ module _ (ds : List Decision) (p : Place) where
                 (omega (arith, run-most ds p v (p .next) (known-first ds p v) (v .inside), length-between ds (p .next) i (omega arith) l, known-first ds p v));
           }
 
-      pub seek-start : (first : Place) → first ≡ skipped p → first .next ≤ length ds → Seeking space (first .next) (first .good)
+      pub seek-start : (first : Place) → first ≡ skipped p → first .next ≤ length ds → Seeking space (first .next) (first .since)
       unfolding NoneFound
       seek-start first e =
           rw e
-          (cond-split (λ (q : Place). q .next ≤ length ds → Seeking space (q .next) (q .good)) (leb (p .known + (31 - p .run)) (p .next)) _ _
+          (cond-split (λ (q : Place). q .next ≤ length ds → Seeking space (q .next) (q .since)) (leb (p .known + (31 - p .ran)) (p .next)) _ _
           (λ t l. record { later = omega arith; place = v; none = rw (between-same ds (p .next)) tt })
-          (λ t l. seek-over (p .known + (31 - p .run)) (leb-false _ _ t) l (omega arith)))
+          (λ t l. seek-over (p .known + (31 - p .ran)) (leb-false _ _ t) l (omega arith)))
 
       -- it is not ended so far
-      pub seek-missed : (i good : ℕ) → p .next < i → Seeking space i good → Seeks ds p space (missedAt (movedTo p i good))
-      seek-missed i good h s =
+      pub seek-missed : (i since : ℕ) → p .next < i → Seeking space i since → Seeks ds p space (missedAt (movedTo p i since))
+      seek-missed i since h s =
           let e : i ≡ i - 1 + 1 = omega arith in
           let l : i - 1 < length ds = omega (arith, s .place .inside) in
           let b : between (p .next) i ds ≡ between (p .next) (i - 1) ds ++ judged ds (i - 1) ∷ [] =
@@ -82,11 +82,11 @@ module _ (ds : List Decision) (p : Place) where
           → Seeks ds p space (missedAt (movedTo p end end))
       seek-short first e end h l =
           rw e
-          (cond-split (λ (q : Place). end ≤ q .next → Seeks ds p space (missedAt (movedTo p end end))) (leb (p .known + (31 - p .run)) (p .next)) _ _
+          (cond-split (λ (q : Place). end ≤ q .next → Seeks ds p space (missedAt (movedTo p end end))) (leb (p .known + (31 - p .ran)) (p .next)) _ _
           (λ t m. absurd (omega arith))
           (λ t m. seek-missed end end h (seek-over end h l m)))
 
-      module _ (i good : ℕ) (s : Seeking space i good) (l : i < length ds) where
+      module _ (i since : ℕ) (s : Seeking space i since) (l : i < length ds) where
         known-i : p .known ≤ i
         known-i = omega (arith, known-first ds p v, s .later)
 
@@ -94,11 +94,11 @@ module _ (ds : List Decision) (p : Place) where
         none-i = let e : i + 1 - 1 ≡ i = omega arith in rw e (s .none)
 
         -- another tone
-        pub seek-other : judged ds i .good ≡ true → Bool·beq (judged ds i .space) space ≡ false → Seeking space (i + 1) good
+        pub seek-other : judged ds i .good ≡ true → Bool·beq (judged ds i .space) space ≡ false → Seeking space (i + 1) since
         seek-other g t =
             record {
               later = omega (arith, s .later);
-              place = place-more ds p v i good (s .place) l g;
+              place = place-more ds p v i since (s .place) l g;
               none =
                   rw (between-more ds (p .next) i (s .later) l)
                   (none-more space (judged ds i) (runAt ds p) (between (p .next) i ds) (s .none) (found-other space (runOver (runAt ds p) (between (p .next) i ds ++ judged ds i ∷ [])) (judged ds i) t));
@@ -122,7 +122,7 @@ module _ (ds : List Decision) (p : Place) where
             let f : i + 1 - 1 ≡ i = omega arith in
             record {
               later = omega (arith, s .later);
-              place = place-exact ds (i + 1) run (omega arith) (rw e (run-low (p .run) (between (p .known) (i + 1) ds) (v .low)));
+              place = place-exact ds (i + 1) run (omega arith) (rw e (run-low (p .ran) (between (p .known) (i + 1) ds) (v .low)));
               run = run-exact ds (i + 1) run ∙ e;
               none = none-i;
               last = rw f (ap (λ (n : ℕ). isFound space n (judged ds i)) (sym (run-exact ds (i + 1) run)));
@@ -141,9 +141,9 @@ module _ (ds : List Decision) (p : Place) where
           let r = run-more ds p v i (omega (arith, known-first ds p v)) l in
           rw (between-more ds (p .next) i h l, r) (lead-more (judged ds i) n (rw r at e) a)
 
-      onward : (t : Turn) → p .next < t .place .next → IsPlace ds (t .place) → runAt ds (t .place) ≡ runBefore ds p (t .place .next)
+      onward-led : (t : Turn) → p .next < t .place .next → IsPlace ds (t .place) → runAt ds (t .place) ≡ runBefore ds p (t .place .next)
           → Led (t .place .next) (t .stage) (numbers (t .event)) → Onward ds p stage t
-      onward t h w e a =
+      onward-led t h w e a =
           record {
             later = h;
             place = w;
@@ -152,18 +152,18 @@ module _ (ds : List Decision) (p : Place) where
           }
 
     -- what a search comes to
-    pub search-onward : {space : Bool} {stage found : Stage} → IsSearch space stage found → (s : Sought) → Seeks ds p space s
-        → Onward ds p stage (record { place = s .place; stage = cond (s .found) found stage; event = Nothing })
-    search-onward {space} {stage} {found} f s k =
+    pub search-onward : {space : Bool} {stage next : Stage} → IsSearch space stage next → (s : Sought) → Seeks ds p space s
+        → Onward ds p stage (soughtTo s stage next)
+    search-onward {space} {stage} {next} f s k =
         let i : ℕ = s .place .next - 1 in
         let e : s .place .next - 1 + 1 ≡ s .place .next = omega (arith, k .later) in
         let h : p .next ≤ s .place .next - 1 = omega (arith, k .later) in
         let l : s .place .next - 1 < length ds = omega (arith, k .later, k .place .inside) in
         let a : Led stage i stage [] = rw (run-on ds p v i h) at (searches f (runAt ds p) (between (p .next) i ds) (k .none)) in
-        onward stage _ (k .later) (k .place) (k .run)
+        onward-led stage (soughtTo s stage next) (k .later) (k .place) (k .run)
         (rw e at
-        (led-more stage i h l a (quiet (cond (s .found) found stage))
-        (ap (λ (b : Bool). quiet (cond b found stage)) (k .last ∙ ap (λ (r : ℕ). isFound space r (judged ds i)) (k .run ∙ ap (runBefore ds p) (sym e)))
+        (led-more stage i h l a (quiet (cond (s .found) next stage))
+        (ap (λ (b : Bool). quiet (cond b next stage)) (k .last ∙ ap (λ (r : ℕ). isFound space r (judged ds i)) (k .run ∙ ap (runBefore ds p) (sym e)))
         ∙ sym (f .step (runBefore ds p (i + 1)) (judged ds i)))))
 
     -- ---- a wait
@@ -178,10 +178,10 @@ module _ (ds : List Decision) (p : Place) where
       pub wait-on : (i left : ℕ) → p .next < i → i - p .next < wait → i ≤ length ds → left ≡ wait - (i - p .next)
           → Onward ds p (Waiting wait slot byte) (record { place = movedTo p i i; stage = Waiting left slot byte; event = Nothing })
       wait-on i left h b l e =
-          rw e (onward (Waiting wait slot byte) _ h (place-moved ds p v i (omega arith) l) refl (led-wait i (omega arith) b l))
+          rw e (onward-led (Waiting wait slot byte) _ h (place-moved ds p v i (omega arith) l) refl (led-wait i (omega arith) b l))
 
       -- the slot is taken at i
-      module _ (i : ℕ) (e : i ≡ p .next + wait - 1) (l : i < length ds) (n : Next) (q : n ≡ waitOver (Waiting wait slot byte) (judged ds i)) where
+      module _ (i : ℕ) (e : i ≡ p .next + wait - 1) (l : i < length ds) (n : Next) (q : n ≡ waitOver slot byte (judged ds i)) where
         low : 1 ≤ wait
         low = wait-low wait slot (stage-wait wait slot byte k)
 
@@ -194,11 +194,11 @@ module _ (ds : List Decision) (p : Place) where
             led-more (Waiting wait slot byte) i later-on l (led-wait i later-on (omega (arith, low)) (omega arith)) n
             (q ∙ sym (wait-parts (runBefore ds p (i + 1)) (judged ds i) (wait - (i - p .next)) slot byte one (stage-slot wait slot byte k)))
 
-        pub slot-taken : Slot (Waiting wait slot byte) i n
+        pub slot-taken : SlotTaken (Waiting wait slot byte) i n
         slot-taken =
             record {
-              good = λ g. onward (Waiting wait slot byte) _ (omega (arith, later-on)) (place-more ds p v i i (place-moved ds p v i later-on (omega arith)) l g) refl led-slot;
+              good = λ g. onward-led (Waiting wait slot byte) _ (omega (arith, later-on)) (place-more ds p v i i (place-moved ds p v i later-on (omega arith)) l g) refl led-slot;
               bad = λ g.
-                  onward (Waiting wait slot byte) _ (omega (arith, later-on)) (place-exact ds (i + 1) 0 (omega arith) (omega arith))
+                  onward-led (Waiting wait slot byte) _ (omega (arith, later-on)) (place-exact ds (i + 1) 0 (omega arith) (omega arith))
                   (run-exact ds (i + 1) 0 ∙ sym (run-bad ds p v i (omega (arith, later-on, known-first ds p v)) l g)) led-slot;
             }

@@ -73,8 +73,8 @@ module _ (ds : List Decision) where
           record { based = omega (arith, known-first); passed = omega arith; inside = l; low = v .low; level = λ j a b. absurd (omega arith) }
 
       -- one more level is good
-      pub place-more : (i good : ℕ) → IsPlace ds (movedTo p i good) → i < length ds → judged ds i .good ≡ true → IsPlace ds (movedTo p (i + 1) good)
-      place-more i good w l g =
+      pub place-more : (i since : ℕ) → IsPlace ds (movedTo p i since) → i < length ds → judged ds i .good ≡ true → IsPlace ds (movedTo p (i + 1) since)
+      place-more i since w l g =
           record {
             based = w .based;
             passed = omega (arith, w .passed);
@@ -89,22 +89,22 @@ module _ (ds : List Decision) where
       pub run-on : (i : ℕ) → p .next ≤ i → runOver (runAt ds p) (between (p .next) i ds) ≡ runBefore ds p i
       run-on i h =
           sym
-          (ap (runOver (p .run)) (between-join (p .known) (p .next) i known-first h)
-          ∙ run-append (p .run) (between (p .known) (p .next) ds) (between (p .next) i ds))
+          (ap (runOver (p .ran)) (between-join (p .known) (p .next) i known-first h)
+          ∙ run-append (p .ran) (between (p .known) (p .next) ds) (between (p .next) i ds))
 
       pub run-more : (i : ℕ) → p .known ≤ i → i < length ds → runBefore ds p (i + 1) ≡ runAfter (runBefore ds p i) (judged ds i .good)
       unfolding after
-      run-more i h l = ap (runOver (p .run)) (between-more (p .known) i h l) ∙ run-append (p .run) (between (p .known) i ds) (judged ds i ∷ [])
+      run-more i h l = ap (runOver (p .ran)) (between-more (p .known) i h l) ∙ run-append (p .ran) (between (p .known) i ds) (judged ds i ∷ [])
 
       -- behind a level that is not good
       pub run-bad : (i : ℕ) → p .known ≤ i → i < length ds → judged ds i .good ≡ false → runBefore ds p (i + 1) ≡ 0
       run-bad i h l g = rw g at (run-more i h l)
 
-      pub run-most : (i : ℕ) → p .known ≤ i → i ≤ length ds → runBefore ds p i ≤ p .run + (i - p .known)
-      run-most i h l = omega (arith, run-slow (p .run) (between (p .known) i ds), length-between (p .known) i h l)
+      pub run-most : (i : ℕ) → p .known ≤ i → i ≤ length ds → runBefore ds p i ≤ p .ran + (i - p .known)
+      run-most i h l = omega (arith, run-slow (p .ran) (between (p .known) i ds), length-between (p .known) i h l)
 
       pub run-place : runAt ds p ≤ 32
-      run-place = run-low (p .run) (between (p .known) (p .next) ds) (v .low)
+      run-place = run-low (p .ran) (between (p .known) (p .next) ds) (v .low)
 
       -- ---- the run at the place, from the last decisions before it
 
@@ -119,28 +119,28 @@ module _ (ds : List Decision) where
       back-none : Back (p .next)
       back-none = record { behind = known-first; before = omega arith; run = omega (arith, run-place) }
 
-      back-down : (n : ℕ) → n ≤ p .next - p .good → Back (p .next - n)
+      back-down : (n : ℕ) → n ≤ p .next - p .since → Back (p .next - n)
       back-down zero h = let e : p .next - 0 ≡ p .next = omega arith in rw e back-none
       back-down (suc n) h =
           let e : p .next - suc n ≡ p .next - n - 1 = omega arith in
           rw e (back-good (p .next - n) (back-down n (omega arith)) (omega (arith, v .based)) (v .level (p .next - n - 1) (omega arith) (omega arith)))
 
-      pub back-start : Back (p .good)
+      pub back-start : Back (p .since)
       back-start =
-          let e : p .next - (p .next - p .good) ≡ p .good = omega (arith, v .passed) in
-          rw e at (back-down (p .next - p .good) (omega arith))
+          let e : p .next - (p .next - p .since) ≡ p .since = omega (arith, v .passed) in
+          rw e at (back-down (p .next - p .since) (omega arith))
 
       pub back-bad : (i : ℕ) → Back i → p .known < i → p .next - i ≤ 32 → judged ds (i - 1) .good ≡ false → p .next - i ≡ runAt ds p
       back-bad i b h l g =
           let r : runBefore ds p i ≡ 0 = rw g at (run-last i h (omega (arith, b .before, v .inside))) in
           omega (arith, b .run)
 
-      pub back-all : (i : ℕ) → Back i → i ≤ max (p .known) (p .next - 32) → min (p .run + (p .next - p .known)) 32 ≡ runAt ds p
+      pub back-all : (i : ℕ) → Back i → i ≤ max (p .known) (p .next - 32) → min (p .ran + (p .next - p .known)) 32 ≡ runAt ds p
       unfolding after
       back-all i b h =
           lt-or-le (p .known) i
           (λ l. omega (arith, b .run, b .before))
           (λ l.
           let e : i ≡ p .known = omega (arith, b .behind) in
-          let r : runBefore ds p i ≡ p .run = ap (runBefore ds p) e ∙ ap (runOver (p .run)) (between-same (p .known)) in
+          let r : runBefore ds p i ≡ p .ran = ap (runBefore ds p) e ∙ ap (runOver (p .ran)) (between-same (p .known)) in
           omega (arith, b .run))

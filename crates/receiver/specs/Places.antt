@@ -13,7 +13,7 @@ use Rattle.control.specs.declared.Decision.{Decision}
 use Rattle.control.specs.declared.Stage.{Stage}
 use Rattle.control.specs.declared.Event.the-variants.{Nothing}
 use Rattle.control.specs.Control.{Control}
-use Rattle.control.specs.Rules.{numbers, isFound, afterSearch, follow, reports, runOver, NoneFound}
+use Rattle.control.specs.Rules.{numbers, isFound, follow, reports, runOver, NoneFound}
 use Rattle.receiver.specs.declared.Place.{Place}
 use Rattle.receiver.specs.declared.Sought.{Sought}
 use Rattle.receiver.specs.declared.Turn.{Turn}
@@ -50,15 +50,15 @@ between i j ds = take (j - i) (drop i ds)
 
 -- what is known at a place
 pub record IsPlace (ds : List Decision) (p : Place) : Type 0 where
-  pub based : p .known ≤ p .good
-  pub passed : p .good ≤ p .next
+  pub based : p .known ≤ p .since
+  pub passed : p .since ≤ p .next
   pub inside : p .next ≤ length ds
-  pub low : p .run ≤ 32
-  pub level : (i : ℕ) → p .good ≤ i → i < p .next → judged ds i .good ≡ true
+  pub low : p .ran ≤ 32
+  pub level : (i : ℕ) → p .since ≤ i → i < p .next → judged ds i .good ≡ true
 
 -- the run before decision i, by what is known at the place, and the run at the place
 abbrev pub runBefore : List Decision → Place → ℕ → ℕ
-runBefore ds p i = runOver (p .run) (between (p .known) i ds)
+runBefore ds p i = runOver (p .ran) (between (p .known) i ds)
 
 abbrev pub runAt : List Decision → Place → ℕ
 runAt ds p = runBefore ds p (p .next)
@@ -68,15 +68,15 @@ controlAt ds p stage = record { run = runAt ds p; stage = stage }
 
 -- before decision i, where the run is known
 abbrev pub exactly : ℕ → ℕ → Place
-exactly i run = record { next = i; known = i; run = run; good = i }
+exactly i run = record { next = i; known = i; ran = run; since = i }
 
 -- before decision i, where the run is known as at p
 abbrev pub movedTo : Place → ℕ → ℕ → Place
-movedTo p i good = record { next = i; known = p .known; run = p .run; good = good }
+movedTo p i since = record { next = i; known = p .known; ran = p .ran; since = since }
 
 -- at the first decision from p on after which the run can be 32
 abbrev pub skipped : Place → Place
-skipped p = let first : ℕ = p .known + (31 - p .run) in cond (leb first (p .next)) p (movedTo p first first)
+skipped p = let first : ℕ = p .known + (31 - p .ran) in cond (leb first (p .next)) p (movedTo p first first)
 
 -- ---- from one place to another
 
@@ -91,9 +91,9 @@ pub record Seeks (ds : List Decision) (p : Place) (space : Bool) (s : Sought) : 
 abbrev pub missedAt : Place → Sought
 missedAt p = record { place = p; found = false }
 
--- what a search for a start comes to
-abbrev pub soughtTo : Sought → Turn
-soughtTo s = record { place = s .place; stage = afterSearch (s .found); event = Nothing }
+-- what a search in a stage comes to: the stage `next` if it is found, and else it goes on
+abbrev pub soughtTo : Sought → Stage → Stage → Turn
+soughtTo s stage next = record { place = s .place; stage = cond (s .found) next stage; event = Nothing }
 
 -- Reading on from the place p comes to the place and the stage of t, and brings its event.
 pub record Onward (ds : List Decision) (p : Place) (stage : Stage) (t : Turn) : Type 0 where

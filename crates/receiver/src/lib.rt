@@ -41,13 +41,13 @@ pub struct Progress {
     pub count: usize,
 }
 
-// A place in a block, before the window `next`. Before the window `known` the run was `run`, and the windows from `good` on, as far as the
-// place, have a good level.
+// A place in a block, before the window `next`. Before the window `known` the run was `ran`, and the windows since `since` have a good
+// level.
 pub struct Place {
     pub next: usize,
     pub known: usize,
-    pub run: usize,
-    pub good: usize,
+    pub ran: usize,
+    pub since: usize,
 }
 
 // How far a search went on, and whether its last window ends it.

@@ -11,20 +11,20 @@ pub(crate) fn exact(next: usize, run: usize) -> Place
     Place {
         next,
         known: next,
-        run,
-        good: next,
+        ran: run,
+        since: next,
     }
 }
 
-// Further on, where the run is known as at the place.
-pub(crate) fn moved(place: Place, next: usize, good: usize) -> Place
-    ensures { λ r. ⌜ r ≡ movedTo place next good ⌝ }
+// Further on, where the run is known as at the place, and the levels are good since a window.
+pub(crate) fn moved(place: Place, next: usize, since: usize) -> Place
+    ensures { λ r. ⌜ r ≡ movedTo place next since ⌝ }
 {
     Place {
         next,
         known: place.known,
-        run: place.run,
-        good,
+        ran: place.ran,
+        since,
     }
 }
 
@@ -33,7 +33,7 @@ pub(crate) fn skip(place: Place) -> Place
     requires { ⌜ place .known < 9223372036854775808 ⌝ }
     ensures { λ r. ⌜ r ≡ skipped place ⌝ }
 {
-    let first = place.known + less(31, place.run);
+    let first = place.known + less(31, place.ran);
     if first <= place.next {
         place
     } else {

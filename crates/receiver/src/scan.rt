@@ -17,6 +17,7 @@ use super::Turn;
 use super::energy;
 use super::moves;
 use super::seek;
+use control::Asked;
 use control::Event;
 use control::Stage;
 
@@ -56,29 +57,35 @@ pub(crate) fn scan(
     }
 }
 
-// Goes on with the stage: a search as far as `seek` goes, or a wait to its slot.
+// Goes on with what the stage asks for: a search as far as `seek` goes, or a wait to its slot.
 fn turn(head: &[i16], samples: &[i16], weights: &[i16], place: Place, stage: Stage) -> Turn
     requires { ⌜ IsSource (now weights) (now head) (now samples) ⌝ }
     requires { ⌜ IsPlace (decisionsBy (now weights) (now head) (now samples)) place × (place .next < length (now samples)) ⌝ }
     requires { ⌜ isStage stage ≡ true ⌝ }
     ensures { λ r. ⌜ Onward (decisionsBy (now (weights .entry)) (now (head .entry)) (now (samples .entry))) place stage r ⌝ }
 {
-    match stage {
-        Stage::Searching => searched(seek::seek(head, samples, weights, place, true)),
-        Stage::Waiting { wait, slot, byte } => {
+    match control::asks_for(stage) {
+        Asked::Tone { space, then } => {
+            as_turn(
+                seek::seek(head, samples, weights, place, space),
+                stage,
+                then,
+            )
+        }
+        Asked::Slot { wait, slot, byte } => {
             wait_for(head, samples, weights, place, wait, slot, byte)
         }
     }
 }
 
-// What a search for a start comes to. It tells nothing.
-fn searched(s: Sought) -> Turn
-    ensures { λ r. ⌜ r ≡ soughtTo s ⌝ }
+// What a search in a stage comes to: the stage `then` if it is found, and else it goes on. It tells nothing.
+fn as_turn(s: Sought, stage: Stage, then: Stage) -> Turn
+    ensures { λ r. ⌜ r ≡ soughtTo s stage then ⌝ }
 {
     let place = s.place;
     Turn {
         place,
-        stage: control::search(s.found),
+        stage: if s.found { then } else { stage },
         event: Event::Nothing,
     }
 }
@@ -113,7 +120,7 @@ fn wait_for(
         };
     }
     let d = energy::judge(head, samples, weights, i);
-    let n = control::take(Stage::Waiting { wait, slot, byte }, d);
+    let n = control::take(slot, byte, d);
     let then = n.stage;
     let event = n.event;
     if !d.good {

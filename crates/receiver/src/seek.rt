@@ -26,7 +26,7 @@ pub(crate) fn seek(
     if end <= first.next {
         return missed(moves::moved(place, end, end));
     }
-    let good = first.good;
+    let since = first.since;
     let mut i = first.next;
     while i < end {
         let d = energy::judge(head, samples, weights, i);
@@ -35,14 +35,14 @@ pub(crate) fn seek(
             return missed(moves::exact(i, 0));
         }
         if d.space == space {
-            let run = run_back(head, samples, weights, moves::moved(place, i, good));
+            let run = run_back(head, samples, weights, moves::moved(place, i, since));
             return Sought {
                 place: moves::exact(i, run),
                 found: control::is_found(space, run, d),
             };
         }
     }
-    missed(moves::moved(place, i, good))
+    missed(moves::moved(place, i, since))
 }
 
 fn missed(place: Place) -> Sought
@@ -61,14 +61,14 @@ pub(crate) fn run_back(head: &[i16], samples: &[i16], weights: &[i16], place: Pl
     requires { ⌜ IsPlace (decisionsBy (now weights) (now head) (now samples)) place ⌝ }
     ensures { λ r. ⌜ r ≡ runAt (decisionsBy (now (weights .entry)) (now (head .entry)) (now (samples .entry))) place ⌝ }
 {
-    let end = moves::later(place.known, moves::less(place.next, 32));
-    let mut i = place.good;
-    while end < i {
+    let stop = moves::later(place.known, moves::less(place.next, 32));
+    let mut i = place.since;
+    while stop < i {
         i -= 1;
         let d = energy::judge(head, samples, weights, i);
         if !d.good {
             return place.next - i - 1;
         }
     }
-    moves::earlier(place.run + (place.next - place.known), 32)
+    moves::earlier(place.ran + (place.next - place.known), 32)
 }

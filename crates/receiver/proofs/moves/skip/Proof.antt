@@ -19,20 +19,20 @@ moved-requires : tie.Need-moved-requires
 moved-requires c κs = tt
 
 -- the first window after which the run can be 32
-first : (l : tie.After-less) → l .before .args .place .known + l .less .result ≡ l .before .args .place .known + (31 - l .before .args .place .run)
+first : (l : tie.After-less) → l .before .args .place .known + l .less .result ≡ l .before .args .place .known + (31 - l .before .args .place .ran)
 first l = ap (λ (n : ℕ). l .before .args .place .known + n) (l .less .ensures)
 
 returns : tie.Need-returns
 returns c =
     let l = c .before .before .before in
     let p = l .before .args .place in
-    rw (le-leb (p .known + (31 - p .run)) (p .next) (omega (arith, first l, c .if1 .taken)))
+    rw (le-leb (p .known + (31 - p .ran)) (p .next) (omega (arith, first l, c .if1 .taken)))
 
 returns-2 : tie.Need-returns-2
 returns-2 c =
     let l = c .before .before .before .before in
     let p = l .before .args .place in
-    rw (lt-leb (p .known + (31 - p .run)) (p .next) (omega (arith, first l, c .before .if1 .left)))
+    rw (lt-leb (p .known + (31 - p .ran)) (p .next) (omega (arith, first l, c .before .if1 .left)))
     (c .moved .ensures ∙ ap (λ (n : ℕ). movedTo p n n) (first l))
 
 pub skip-spec : {M : Type 1} → statement M

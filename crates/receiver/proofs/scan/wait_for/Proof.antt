@@ -13,7 +13,7 @@ use Rattle.control.specs.declared.Stage.the-variants.{Waiting}
 use Rattle.control.specs.Rules.{waitOver}
 use Rattle.control.proofs.Ranges.{wait-low, wait-high, stage-wait}
 use Rattle.receiver.specs.Places.{decisionsBy, judged}
-use Rattle.receiver.proofs.Onward.{wait-on, Slot, slot-taken}
+use Rattle.receiver.proofs.Onward.{wait-on, SlotTaken, slot-taken}
 use Rattle.receiver.proofs.Scanning.{window-each}
 use Rattle.receiver.proofs.scan.wait_for.Statement.{statement}
 use Rattle.receiver.proofs.scan.wait_for.Tie as tie
@@ -87,13 +87,13 @@ module _ (t : tie.After-take) where
   abbrev stage : Stage
   stage = Waiting (begun .args .wait) (begun .args .slot) (begun .args .byte)
 
-  took : t .take .result ≡ waitOver stage (judged (all begun) (at (t .before)))
-  took = t .take .ensures ∙ ap (waitOver stage) (t .before .judge .ensures)
+  took : t .take .result ≡ waitOver (begun .args .slot) (begun .args .byte) (judged (all begun) (at (t .before)))
+  took = t .take .ensures ∙ ap (waitOver (begun .args .slot) (begun .args .byte)) (t .before .judge .ensures)
 
   level : t .before .judge .result .good ≡ judged (all begun) (at (t .before)) .good
   level = ap (λ (d : Decision). d .good) (t .before .judge .ensures)
 
-  leads : Slot (all begun) (begun .args .place) stage (at (t .before)) (t .take .result)
+  leads : SlotTaken (all begun) (begun .args .place) stage (at (t .before)) (t .take .result)
   leads =
       let a = begun .args in
       slot-taken (all begun) (a .place) (begun .pre .1 .0 .0) (a .wait) (a .slot) (a .byte) (begun .pre .1 .1) (at (t .before)) (at-is (t .before)) (at-in (t .before))

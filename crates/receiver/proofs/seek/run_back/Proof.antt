@@ -15,10 +15,10 @@ use Rattle.receiver.proofs.seek.run_back.Statement.{statement}
 use Rattle.receiver.proofs.seek.run_back.Tie as tie
 
 abbrev Inv-loop : tie.InvT-loop
-Inv-loop head samples weights place end i₀ i = Back (decisionsBy weights head samples) place i
+Inv-loop head samples weights place stop i₀ i = Back (decisionsBy weights head samples) place i
 
 abbrev μ-loop : tie.MeasureT-loop
-μ-loop head samples weights place end i₀ i = i
+μ-loop head samples weights place stop i₀ i = i
 
 abbrev all : tie.Start Inv-loop μ-loop → List Decision
 all s = decisionsBy (s .args .weights .now) (s .args .head .now) (s .args .samples .now)

@@ -17,10 +17,10 @@ use Rattle.receiver.proofs.seek.seek.Statement.{statement}
 use Rattle.receiver.proofs.seek.seek.Tie as tie
 
 abbrev Inv-loop : tie.InvT-loop
-Inv-loop head samples weights place space end good i₀ i = Seeking (decisionsBy weights head samples) place space i good
+Inv-loop head samples weights place space end since i₀ i = Seeking (decisionsBy weights head samples) place space i since
 
 abbrev μ-loop : tie.MeasureT-loop
-μ-loop head samples weights place space end good i₀ i = end - i
+μ-loop head samples weights place space end since i₀ i = end - i
 
 abbrev all : tie.Start Inv-loop μ-loop → List Decision
 all s = decisionsBy (s .args .weights .now) (s .args .head .now) (s .args .samples .now)
@@ -62,10 +62,10 @@ module _ (j : tie.After-judge Inv-loop μ-loop) where
   abbrev i : ℕ
   i = j .before .before .loop .i
 
-  abbrev good : ℕ
-  good = j .before .before .before .before .before .skip .result .good
+  abbrev since : ℕ
+  since = j .before .before .before .before .before .skip .result .since
 
-  so-far : Seeking (all begun) (begun .args .place) (begun .args .space) i good
+  so-far : Seeking (all begun) (begun .args .place) (begun .args .space) i since
   so-far = j .before .before .loop .inv
 
   inside : i < length (all begun)
@@ -89,7 +89,7 @@ returns-2 c =
     let j = c .before .before .before .before in
     let s = begun j in
     rw (c .missed2 .ensures, c .before .exact .ensures)
-    (seek-bad (all s) (s .args .place) (s .pre .1 .0) (s .args .space) (i j) (good j) (so-far j) (inside j)
+    (seek-bad (all s) (s .args .place) (s .pre .1 .0) (s .args .space) (i j) (since j) (so-far j) (inside j)
     (sym (level j) ∙ not-true (j .judge .result .good) (c .before .before .if2 .taken)))
 
 moved-requires-2 : tie.Need-moved-requires-2 Inv-loop μ-loop
@@ -100,7 +100,7 @@ run-back-requires c κs =
     let g = c .before .before .before in
     let j = g .before .before in
     let s = begun j in
-    (s .pre .0, rw (c .moved2 .ensures) (place-more (all s) (s .args .place) (s .pre .1 .0) (i j) (good j) (so-far j .place) (inside j) (sound g)))
+    (s .pre .0, rw (c .moved2 .ensures) (place-more (all s) (s .args .place) (s .pre .1 .0) (i j) (since j) (so-far j .place) (inside j) (sound g)))
 
 exact-requires-2 : tie.Need-exact-requires-2 Inv-loop μ-loop
 exact-requires-2 c κs = tt
@@ -114,7 +114,7 @@ returns-3 c =
     let j = r .before .before .before .before .before .before in
     let s = begun j in
     rw (c .before .exact2 .ensures, c .is-found .ensures, j .judge .ensures)
-    (seek-tone (all s) (s .args .place) (s .pre .1 .0) (s .args .space) (i j) (good j) (so-far j) (inside j) (r .run-back .result)
+    (seek-tone (all s) (s .args .place) (s .pre .1 .0) (s .args .space) (i j) (since j) (so-far j) (inside j) (r .run-back .result)
     (r .run-back .ensures ∙ ap (runAt (all s)) (r .before .moved2 .ensures)))
 
 loop-less : tie.Need-loop-less Inv-loop μ-loop
@@ -125,7 +125,7 @@ loop-again c =
     let g = c .before .before in
     let j = g .before .before in
     let s = begun j in
-    seek-other (all s) (s .args .place) (s .pre .1 .0) (s .args .space) (i j) (good j) (so-far j) (inside j) (sound g)
+    seek-other (all s) (s .args .place) (s .pre .1 .0) (s .args .space) (i j) (since j) (so-far j) (inside j) (sound g)
     (sym (ap (λ (d : Decision). Bool·beq (d .space) (s .args .space)) (j .judge .ensures)) ∙ c .if3 .left)
 
 moved-requires-3 : tie.Need-moved-requires-3 Inv-loop μ-loop
@@ -140,7 +140,7 @@ returns-4 c =
     let k = l .before .before .before in
     let s = k .before in
     rw (c .missed3 .ensures, c .before .moved3 .ensures)
-    (seek-missed (all s) (s .args .place) (s .pre .1 .0) (s .args .space) (l .loop .i) (k .skip .result .good)
+    (seek-missed (all s) (s .args .place) (s .pre .1 .0) (s .args .space) (l .loop .i) (k .skip .result .since)
     (omega (arith, s .pre .1 .1, c .before .before .loop-test .left)) (l .loop .inv))
 
 pub seek-spec : {M : Type 1} → statement M

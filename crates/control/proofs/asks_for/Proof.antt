@@ -1,0 +1,20 @@
+-- `control::asks_for` meets its contract.
+-- Assumes nothing.
+use borrow.Author.Needs.{needs}
+use Rattle.control.proofs.asks_for.Statement.{statement}
+use Rattle.control.proofs.asks_for.Tie as tie
+
+enum-told : tie.Need-enum-told
+enum-told c = search needs
+
+enum-known-stage : tie.Need-enum-known-stage
+enum-known-stage c = search needs
+
+returns : tie.Need-returns
+returns c = rw (c .enum-told .given .1)
+
+returns-2 : tie.Need-returns-2
+returns-2 c = rw (c .before .stage .given .1)
+
+pub asks-for-spec : {M : Type 1} → statement M
+asks-for-spec = tie.close (tie.spec enum-told enum-known-stage returns returns-2)
