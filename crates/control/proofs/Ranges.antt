@@ -114,7 +114,7 @@ pub control-run : (c : Control) → isControl c ≡ true → c .run ≤ 32
 unfolding isControl
 control-run c h = leb-true (c .run) 32 (and-elim-left (leb (c .run) 32) (isStage (c .stage)) h)
 
-run-kept : (run : ℕ) (good : Bool) → runAfter run good ≤ 32
+pub run-kept : (run : ℕ) (good : Bool) → runAfter run good ≤ 32
 run-kept run good = cond-case (λ (n : ℕ). n ≤ 32) good (min (run + 1) 32) 0 (omega arith) (omega arith)
 
 pub control-kept : (c : Control) (d : Decision) → isControl c ≡ true → isControl (controlAfter c d) ≡ true

@@ -18,20 +18,18 @@ use Rattle.control.specs.declared.Stage.{Stage}
 use Rattle.control.specs.declared.Stage.the-variants.{Waiting}
 use Rattle.control.specs.Control.{Control}
 use Rattle.control.specs.Rules.{numbers, quiet, runAfter, nextOf, isFound, controlAfter, reported, follow, reports, runOver, NoneFound}
+use Rattle.control.proofs.Ranges.{run-kept}
 use Rattle.control.proofs.Rules.{wait-more, IsSearch, control-after, events-reported}
 
 -- ---- the run
 
 pub run-append : (run : ℕ) (ds es : List Decision) → runOver run (ds ++ es) ≡ runOver (runOver run ds) es
-unfolding after
-run-append run [] es = refl
-run-append run (d ∷ ds) es = run-append (runAfter run (d .good)) ds es
+run-append = run-laws {A = ℕ} (λ (run : ℕ) (d : Decision). runAfter run (d .good)) (λ (run : ℕ) (d : Decision). []) .after-append
 
 pub run-low : (run : ℕ) (ds : List Decision) → run ≤ 32 → runOver run ds ≤ 32
 unfolding after
 run-low run [] h = h
-run-low run (d ∷ ds) h =
-    run-low (runAfter run (d .good)) ds (cond-case (λ (n : ℕ). n ≤ 32) (d .good) (min (run + 1) 32) 0 (omega arith) (omega arith))
+run-low run (d ∷ ds) h = run-low (runAfter run (d .good)) ds (run-kept run (d .good))
 
 one-more : (run : ℕ) (good : Bool) → runAfter run good ≤ run + 1
 one-more run good = cond-case (λ (n : ℕ). n ≤ run + 1) good (min (run + 1) 32) 0 (omega arith) (omega arith)

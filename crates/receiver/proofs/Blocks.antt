@@ -10,9 +10,9 @@ use native.Mathlib.Omega.{arith}
 use borrow.Author.Tests.{lt-ltb, le-ltb}
 use lib.IntN.{ℤ}
 use lib.ListN.{length, take, drop, length-drop}
-use lib.Seq.{sets, take-all, take-at, take-take, drop-drop, take-append-add, drop-append-le, drop-append-add}
+use lib.Seq.{sets, take-all, take-at, drop-drop, take-append-add, drop-append-le, drop-append-add}
 use Rattle.integers.proofs.Tests.{lt-or-le}
-use Rattle.integers.proofs.Lists.{sets-front, drop-take}
+use Rattle.integers.proofs.Lists.{sets-front, drop-take, same-front}
 use Rattle.calls.specs.Outcome.{outcome, accepted}
 use Rattle.sine.specs.Wave.{weightsOf}
 use Rattle.tones.specs.Bands.{tonesOf}
@@ -46,10 +46,6 @@ pub record Head (s : Receiver) (xs : List ℤ) (n : ℕ) (head : List ℤ) : Typ
   pub cut : n ≡ min (length xs) 31
   pub long : length head ≡ 64
   pub whole : take (32 + n) head ≡ s .window ++ take n xs
-
--- two lists that begin alike
-same-front : (k m : ℕ) (xs ys : List ℤ) → take m xs ≡ take m ys → k ≤ m → take k xs ≡ take k ys
-same-front k m xs ys e h = sym (take-take k m xs h) ∙ ap (take k) e ∙ take-take k m ys h
 
 module _ {s : Receiver} {xs : List ℤ} {lent : List ℕ} {n : ℕ} {head : List ℤ} (a : Accepted s xs lent) (h : Head s xs n head) where
   -- the last 31 samples before the block, and with the block

@@ -9,6 +9,7 @@ use native.Mathlib.Omega.{arith}
 use borrow.Author.Tests.{leb-false}
 use lib.Dec.{leb}
 use lib.ListN.{length}
+use lib.Seq.{slice, slice-empty, length-slice}
 use Rattle.integers.proofs.Tests.{cond-split}
 use Rattle.control.specs.declared.Decision.{Decision}
 use Rattle.control.specs.declared.Event.the-variants.{Nothing}
@@ -23,15 +24,15 @@ use Rattle.control.proofs.Stretches.{Leads, run-low, found-other, none-short, n
 use Rattle.receiver.specs.declared.Place.{Place}
 use Rattle.receiver.specs.declared.Sought.{Sought}
 use Rattle.receiver.specs.declared.Turn.{Turn}
-use Rattle.receiver.specs.Places.{judged, between, IsPlace, runBefore, runAt, controlAt, exactly, movedTo, skipped, Seeks, missedAt, soughtTo, Onward}
-use Rattle.receiver.proofs.Places.{between-same, between-more, length-between, place-exact, run-exact, known-first, place-moved, place-more, run-on, run-more, run-bad, run-most}
+use Rattle.receiver.specs.Places.{judged, IsPlace, runBefore, runAt, controlAt, exactly, movedTo, skipped, Seeks, missedAt, soughtTo, Onward}
+use Rattle.receiver.proofs.Places.{decision-more, place-exact, run-exact, known-first, place-moved, place-more, run-on, run-more, run-bad, run-most}
 
 module _ (ds : List Decision) (p : Place) where
   -- before decision i none has ended a search
   pub record Seeking (space : Bool) (i since : ℕ) : Type 0 where
     pub later : p .next ≤ i
     pub place : IsPlace ds (movedTo p i since)
-    pub none : NoneFound space (runAt ds p) (between (p .next) i ds)
+    pub none : NoneFound space (runAt ds p) (slice (p .next) i ds)
 
   -- the slot of a wait is taken at i, with a good level or without one
   pub record SlotTaken (stage : Stage) (i : ℕ) (n : Next) : Type 0 where
@@ -49,8 +50,8 @@ module _ (ds : List Decision) (p : Place) where
             later = omega arith;
             place = place-moved ds p v i (omega arith) l;
             none =
-                none-short space (runAt ds p) (between (p .next) i ds)
-                (omega (arith, run-most ds p v (p .next) (known-first ds p v) (v .inside), length-between ds (p .next) i (omega arith) l, known-first ds p v));
+                none-short space (runAt ds p) (slice (p .next) i ds)
+                (omega (arith, run-most ds p v (p .next) (known-first ds p v) (v .inside), length-slice (p .next) i ds l, known-first ds p v));
           }
 
       pub seek-start : (first : Place) → first ≡ skipped p → first .next ≤ length ds → Seeking space (first .next) (first .since)
@@ -58,7 +59,7 @@ module _ (ds : List Decision) (p : Place) where
       seek-start first e =
           rw e
           (cond-split (λ (q : Place). q .next ≤ length ds → Seeking space (q .next) (q .since)) (leb (p .known + (31 - p .ran)) (p .next)) _ _
-          (λ t l. record { later = omega arith; place = v; none = rw (between-same ds (p .next)) tt })
+          (λ t l. record { later = omega arith; place = v; none = rw (slice-empty (p .next) ds) tt })
           (λ t l. seek-over (p .known + (31 - p .ran)) (leb-false _ _ t) l (omega arith)))
 
       -- it is not ended so far
@@ -66,9 +67,9 @@ module _ (ds : List Decision) (p : Place) where
       seek-missed i since h s =
           let e : i ≡ i - 1 + 1 = omega arith in
           let l : i - 1 < length ds = omega (arith, s .place .inside) in
-          let b : between (p .next) i ds ≡ between (p .next) (i - 1) ds ++ judged ds (i - 1) ∷ [] =
-          ap (λ (n : ℕ). between (p .next) n ds) e ∙ between-more ds (p .next) (i - 1) (omega arith) l in
-          let n = none-last space (judged ds (i - 1)) (runAt ds p) (between (p .next) (i - 1) ds) (rw b at (s .none)) in
+          let b : slice (p .next) i ds ≡ slice (p .next) (i - 1) ds ++ judged ds (i - 1) ∷ [] =
+          ap (λ (n : ℕ). slice (p .next) n ds) e ∙ decision-more ds (p .next) (i - 1) (omega arith) l in
+          let n = none-last space (judged ds (i - 1)) (runAt ds p) (slice (p .next) (i - 1) ds) (rw b at (s .none)) in
           record {
             later = h;
             place = s .place;
@@ -90,7 +91,7 @@ module _ (ds : List Decision) (p : Place) where
         known-i : p .known ≤ i
         known-i = omega (arith, known-first ds p v, s .later)
 
-        none-i : NoneFound space (runAt ds p) (between (p .next) (i + 1 - 1) ds)
+        none-i : NoneFound space (runAt ds p) (slice (p .next) (i + 1 - 1) ds)
         none-i = let e : i + 1 - 1 ≡ i = omega arith in rw e (s .none)
 
         -- another tone
@@ -100,8 +101,8 @@ module _ (ds : List Decision) (p : Place) where
               later = omega (arith, s .later);
               place = place-more ds p v i since (s .place) l g;
               none =
-                  rw (between-more ds (p .next) i (s .later) l)
-                  (none-more space (judged ds i) (runAt ds p) (between (p .next) i ds) (s .none) (found-other space (runOver (runAt ds p) (between (p .next) i ds ++ judged ds i ∷ [])) (judged ds i) t));
+                  rw (decision-more ds (p .next) i (s .later) l)
+                  (none-more space (judged ds i) (runAt ds p) (slice (p .next) i ds) (s .none) (found-other space (runOver (runAt ds p) (slice (p .next) i ds ++ judged ds i ∷ [])) (judged ds i) t));
             }
 
         -- no good level
@@ -122,7 +123,7 @@ module _ (ds : List Decision) (p : Place) where
             let f : i + 1 - 1 ≡ i = omega arith in
             record {
               later = omega (arith, s .later);
-              place = place-exact ds (i + 1) run (omega arith) (rw e (run-low (p .ran) (between (p .known) (i + 1) ds) (v .low)));
+              place = place-exact ds (i + 1) run (omega arith) (rw e (run-low (p .ran) (slice (p .known) (i + 1) ds) (v .low)));
               run = run-exact ds (i + 1) run ∙ e;
               none = none-i;
               last = rw f (ap (λ (n : ℕ). isFound space n (judged ds i)) (sym (run-exact ds (i + 1) run)));
@@ -133,13 +134,13 @@ module _ (ds : List Decision) (p : Place) where
     module _ (stage : Stage) where
       -- the decisions from the place to i lead to this stage, with these events
       abbrev Led : ℕ → Stage → List ℕ → Type 0
-      Led i = Leads (controlAt ds p stage) (between (p .next) i ds) (runBefore ds p i)
+      Led i = Leads (controlAt ds p stage) (slice (p .next) i ds) (runBefore ds p i)
 
       led-more : (i : ℕ) {s : Stage} → p .next ≤ i → i < length ds → Led i s [] → (n : Next) → n ≡ nextOf s (runBefore ds p (i + 1)) (judged ds i)
           → Led (i + 1) (n .stage) (numbers (n .event))
       led-more i h l a n e =
           let r = run-more ds p v i (omega (arith, known-first ds p v)) l in
-          rw (between-more ds (p .next) i h l, r) (lead-more (judged ds i) n (rw r at e) a)
+          rw (decision-more ds (p .next) i h l, r) (lead-more (judged ds i) n (rw r at e) a)
 
       onward-led : (t : Turn) → p .next < t .place .next → IsPlace ds (t .place) → runAt ds (t .place) ≡ runBefore ds p (t .place .next)
           → Led (t .place .next) (t .stage) (numbers (t .event)) → Onward ds p stage t
@@ -159,7 +160,7 @@ module _ (ds : List Decision) (p : Place) where
         let e : s .place .next - 1 + 1 ≡ s .place .next = omega (arith, k .later) in
         let h : p .next ≤ s .place .next - 1 = omega (arith, k .later) in
         let l : s .place .next - 1 < length ds = omega (arith, k .later, k .place .inside) in
-        let a : Led stage i stage [] = rw (run-on ds p v i h) at (searches f (runAt ds p) (between (p .next) i ds) (k .none)) in
+        let a : Led stage i stage [] = rw (run-on ds p v i h) at (searches f (runAt ds p) (slice (p .next) i ds) (k .none)) in
         onward-led stage (soughtTo s stage next) (k .later) (k .place) (k .run)
         (rw e at
         (led-more stage i h l a (quiet (cond (s .found) next stage))
@@ -171,8 +172,8 @@ module _ (ds : List Decision) (p : Place) where
     module _ (wait slot byte : ℕ) (k : isStage (Waiting wait slot byte) ≡ true) where
       led-wait : (i : ℕ) → p .next ≤ i → i - p .next < wait → i ≤ length ds → Led (Waiting wait slot byte) i (Waiting (wait - (i - p .next)) slot byte) []
       led-wait i h b l =
-          let n : length (between (p .next) i ds) ≡ i - p .next = length-between ds (p .next) i h l in
-          rw (n, run-on ds p v i h) at (waits (runAt ds p) wait slot byte (between (p .next) i ds) (rw n b))
+          let n : length (slice (p .next) i ds) ≡ i - p .next = length-slice (p .next) i ds l in
+          rw (n, run-on ds p v i h) at (waits (runAt ds p) wait slot byte (slice (p .next) i ds) (rw n b))
 
       -- it goes on to i
       pub wait-on : (i left : ℕ) → p .next < i → i - p .next < wait → i ≤ length ds → left ≡ wait - (i - p .next)

@@ -5,44 +5,21 @@ use mathlib.Core.Bool.{true, false}
 use mathlib.Core.List.{List, [], _∷_, _++_}
 use Prim.Native.Nat.{ℕ, zero, suc, _+_, _-_, _<_, _≤_, min, max}
 use native.Mathlib.Omega.{arith}
-use lib.ListN.{length, take, drop, length-drop, length-take, take-append-drop}
-use lib.Seq.{take-add, drop-drop, drop-cons}
+use lib.ListN.{length}
+use lib.Seq.{slice, slice-empty, length-slice}
 use Rattle.integers.proofs.Tests.{lt-or-le}
+use Rattle.integers.proofs.Lists.{slice-join, slice-more}
 use Rattle.calls.specs.Runs.{after}
 use Rattle.control.specs.declared.Decision.{Decision}
 use Rattle.control.specs.Rules.{runAfter, runOver}
 use Rattle.control.proofs.Stretches.{run-append, run-low, run-slow}
 use Rattle.receiver.specs.declared.Place.{Place}
-use Rattle.receiver.specs.Places.{judged, between, IsPlace, runBefore, runAt, exactly, movedTo}
-
--- ---- parts of a list of decisions
+use Rattle.receiver.specs.Places.{judged, IsPlace, runBefore, runAt, exactly, movedTo}
 
 module _ (ds : List Decision) where
-  pub between-same : (i : ℕ) → between i i ds ≡ []
-  between-same i = let e : i - i ≡ 0 = omega arith in ap (λ (n : ℕ). take n (drop i ds)) e
-
-  pub between-join : (i j k : ℕ) → i ≤ j → j ≤ k → between i k ds ≡ between i j ds ++ between j k ds
-  between-join i j k h l =
-      let e : k - i ≡ j - i + (k - j) = omega arith in
-      let f : i + (j - i) ≡ j = omega arith in
-      ap (λ (n : ℕ). take n (drop i ds)) e
-      ∙ take-add (j - i) (k - j) (drop i ds)
-      ∙ ap (λ (l : List Decision). between i j ds ++ take (k - j) l) (drop-drop (j - i) i ds ∙ ap (λ (n : ℕ). drop n ds) f)
-
-  pub between-more : (i j : ℕ) → i ≤ j → j < length ds → between i (j + 1) ds ≡ between i j ds ++ judged ds j ∷ []
-  between-more i j h l =
-      let e : j + 1 - j ≡ 1 = omega arith in
-      between-join i j (j + 1) h (omega arith)
-      ∙ ap (λ (l : List Decision). between i j ds ++ l) (ap (λ (n : ℕ). take n (drop j ds)) e ∙ ap (take 1) (drop-cons ds j (record { good = false; space = false }) l))
-
-  pub length-between : (i j : ℕ) → i ≤ j → j ≤ length ds → length (between i j ds) ≡ j - i
-  length-between i j h l = omega (arith, length-take (j - i) (drop i ds), length-drop i ds)
-
-  pub between-rest : (i j : ℕ) → i ≤ j → drop i ds ≡ between i j ds ++ drop j ds
-  between-rest i j h =
-      let f : i + (j - i) ≡ j = omega arith in
-      sym (take-append-drop (j - i) (drop i ds))
-      ∙ ap (λ (l : List Decision). between i j ds ++ l) (drop-drop (j - i) i ds ∙ ap (λ (n : ℕ). drop n ds) f)
+  -- one decision more
+  pub decision-more : (i j : ℕ) → i ≤ j → j < length ds → slice i (j + 1) ds ≡ slice i j ds ++ judged ds j ∷ []
+  decision-more i j h l = slice-more ds i j (record { good = false; space = false }) h l
 
   -- ---- places
 
@@ -52,7 +29,7 @@ module _ (ds : List Decision) where
   -- the run at a place where it is known
   pub run-exact : (i run : ℕ) → runAt ds (exactly i run) ≡ run
   unfolding after
-  run-exact i run = ap (runOver run) (between-same i)
+  run-exact i run = ap (runOver run) (slice-empty i ds)
 
   module _ (p : Place) where
     -- from i on to the place every level is good
@@ -86,25 +63,25 @@ module _ (ds : List Decision) where
       -- ---- the run
 
       -- it runs on from the place
-      pub run-on : (i : ℕ) → p .next ≤ i → runOver (runAt ds p) (between (p .next) i ds) ≡ runBefore ds p i
+      pub run-on : (i : ℕ) → p .next ≤ i → runOver (runAt ds p) (slice (p .next) i ds) ≡ runBefore ds p i
       run-on i h =
           sym
-          (ap (runOver (p .ran)) (between-join (p .known) (p .next) i known-first h)
-          ∙ run-append (p .ran) (between (p .known) (p .next) ds) (between (p .next) i ds))
+          (ap (runOver (p .ran)) (slice-join ds (p .known) (p .next) i known-first h (v .inside))
+          ∙ run-append (p .ran) (slice (p .known) (p .next) ds) (slice (p .next) i ds))
 
       pub run-more : (i : ℕ) → p .known ≤ i → i < length ds → runBefore ds p (i + 1) ≡ runAfter (runBefore ds p i) (judged ds i .good)
       unfolding after
-      run-more i h l = ap (runOver (p .ran)) (between-more (p .known) i h l) ∙ run-append (p .ran) (between (p .known) i ds) (judged ds i ∷ [])
+      run-more i h l = ap (runOver (p .ran)) (decision-more (p .known) i h l) ∙ run-append (p .ran) (slice (p .known) i ds) (judged ds i ∷ [])
 
       -- behind a level that is not good
       pub run-bad : (i : ℕ) → p .known ≤ i → i < length ds → judged ds i .good ≡ false → runBefore ds p (i + 1) ≡ 0
       run-bad i h l g = rw g at (run-more i h l)
 
       pub run-most : (i : ℕ) → p .known ≤ i → i ≤ length ds → runBefore ds p i ≤ p .ran + (i - p .known)
-      run-most i h l = omega (arith, run-slow (p .ran) (between (p .known) i ds), length-between (p .known) i h l)
+      run-most i h l = omega (arith, run-slow (p .ran) (slice (p .known) i ds), length-slice (p .known) i ds l)
 
       pub run-place : runAt ds p ≤ 32
-      run-place = run-low (p .ran) (between (p .known) (p .next) ds) (v .low)
+      run-place = run-low (p .ran) (slice (p .known) (p .next) ds) (v .low)
 
       -- ---- the run at the place, from the last decisions before it
 
@@ -142,5 +119,5 @@ module _ (ds : List Decision) where
           (λ l. omega (arith, b .run, b .before))
           (λ l.
           let e : i ≡ p .known = omega (arith, b .behind) in
-          let r : runBefore ds p i ≡ p .ran = ap (runBefore ds p) e ∙ ap (runOver (p .ran)) (between-same (p .known)) in
+          let r : runBefore ds p i ≡ p .ran = ap (runBefore ds p) e ∙ ap (runOver (p .ran)) (slice-empty (p .known) ds) in
           omega (arith, b .run))

@@ -8,7 +8,8 @@ use Prim.Native.Nat.{ℕ, _+_, _-_, _<_, _≤_, zero-le}
 use native.Mathlib.Omega.{arith}
 use lib.IntN.{ℤ}
 use lib.ListN.{length, take, drop, length-append, length-drop, drop-of-length-le}
-use lib.Seq.{sets, length-take-le, drop-append-add}
+use lib.Seq.{sets, length-take-le, drop-append-add, slice}
+use Rattle.integers.proofs.Lists.{slice-rest}
 use Rattle.calls.specs.Runs.{after, gives}
 use Rattle.calls.proofs.Runs.{run-laws}
 use Rattle.calls.proofs.Filling.{Filling, filling-start, filling-more, filling-end}
@@ -23,9 +24,9 @@ use Rattle.receiver.specs.declared.Progress.{Progress}
 use Rattle.receiver.specs.declared.Turn.{Turn}
 use Rattle.receiver.specs.Energy.{IsWindow, decisionBy}
 use Rattle.receiver.specs.Windows.{progressed}
-use Rattle.receiver.specs.Places.{recorded, IsSource, decisionsBy, judged, between, IsPlace, runAt, controlAt, exactly, Onward}
+use Rattle.receiver.specs.Places.{recorded, IsSource, decisionsBy, judged, IsPlace, runAt, controlAt, exactly, Onward}
 use Rattle.receiver.proofs.Windows.{length-decisions, decisions-at}
-use Rattle.receiver.proofs.Places.{between-rest, place-exact, run-exact}
+use Rattle.receiver.proofs.Places.{place-exact, run-exact}
 
 -- ---- the windows of a block
 
@@ -99,13 +100,13 @@ module _ (ds : List Decision) (lent : List ℕ) (c : Control) where
       here = controlAt ds at stage
 
       abbrev gone : List Decision
-      gone = between (at .next) (t .place .next) ds
+      gone = slice (at .next) (t .place .next) ds
 
       abbrev left : List Decision
       left = drop (t .place .next) ds
 
       parts : drop (at .next) ds ≡ gone ++ left
-      parts = between-rest ds (at .next) (t .place .next) (omega (arith, o .later))
+      parts = slice-rest ds (at .next) (t .place .next) (omega (arith, o .later)) (s .place .inside)
 
       reached-next : follow (controlAt ds (t .place) (t .stage)) left ≡ follow here (drop (at .next) ds)
       reached-next =

@@ -8,6 +8,7 @@ use Prim.Native.Nat.{ℕ, _+_, _-_, _<_, _≤_}
 use lib.Dec.{leb}
 use lib.IntN.{ℤ}
 use lib.ListN.{length, getD, take, drop}
+use lib.Seq.{slice}
 use Rattle.tones.specs.Samples.{areSamples}
 use Rattle.control.specs.declared.Decision.{Decision}
 use Rattle.control.specs.declared.Stage.{Stage}
@@ -42,10 +43,6 @@ decisionsBy weights head samples = decisions (decisionBy weights) (recorded head
 abbrev pub judged : List Decision → ℕ → Decision
 judged ds i = getD ds i (record { good = false; space = false })
 
--- those from i on, before j
-abbrev pub between : ℕ → ℕ → List Decision → List Decision
-between i j ds = take (j - i) (drop i ds)
-
 -- ---- places
 
 -- what is known at a place
@@ -58,7 +55,7 @@ pub record IsPlace (ds : List Decision) (p : Place) : Type 0 where
 
 -- the run before decision i, by what is known at the place, and the run at the place
 abbrev pub runBefore : List Decision → Place → ℕ → ℕ
-runBefore ds p i = runOver (p .ran) (between (p .known) i ds)
+runBefore ds p i = runOver (p .ran) (slice (p .known) i ds)
 
 abbrev pub runAt : List Decision → Place → ℕ
 runAt ds p = runBefore ds p (p .next)
@@ -85,7 +82,7 @@ pub record Seeks (ds : List Decision) (p : Place) (space : Bool) (s : Sought) : 
   pub later : p .next < s .place .next
   pub place : IsPlace ds (s .place)
   pub run : runAt ds (s .place) ≡ runBefore ds p (s .place .next)
-  pub none : NoneFound space (runAt ds p) (between (p .next) (s .place .next - 1) ds)
+  pub none : NoneFound space (runAt ds p) (slice (p .next) (s .place .next - 1) ds)
   pub last : s .found ≡ isFound space (runAt ds (s .place)) (judged ds (s .place .next - 1))
 
 abbrev pub missedAt : Place → Sought
@@ -99,5 +96,5 @@ soughtTo s stage next = record { place = s .place; stage = cond (s .found) next 
 pub record Onward (ds : List Decision) (p : Place) (stage : Stage) (t : Turn) : Type 0 where
   pub later : p .next < t .place .next
   pub place : IsPlace ds (t .place)
-  pub control : follow (controlAt ds p stage) (between (p .next) (t .place .next) ds) ≡ controlAt ds (t .place) (t .stage)
-  pub events : reports (controlAt ds p stage) (between (p .next) (t .place .next) ds) ≡ numbers (t .event)
+  pub control : follow (controlAt ds p stage) (slice (p .next) (t .place .next) ds) ≡ controlAt ds (t .place) (t .stage)
+  pub events : reports (controlAt ds p stage) (slice (p .next) (t .place .next) ds) ≡ numbers (t .event)

@@ -38,7 +38,7 @@ pub(crate) fn read(receiver: Receiver, samples: &[i16], events: &mut [u16]) -> R
     let band = receiver.band;
     let old = receiver.window;
     let stage = receiver.stage;
-    let n = moves::earlier(samples.len(), 31);
+    let n = moves::least(samples.len(), 31);
     let head = joined(&old, samples, n);
     let tones = tones::tones_of(band);
     let weights = sine::weights(tones.space, tones.mark);

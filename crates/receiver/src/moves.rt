@@ -41,13 +41,13 @@ pub(crate) fn skip(place: Place) -> Place
     }
 }
 
-pub(crate) fn later(a: usize, b: usize) -> usize
+pub(crate) fn greatest(a: usize, b: usize) -> usize
     ensures { λ r. ⌜ r ≡ max a b ⌝ }
 {
     if a < b { b } else { a }
 }
 
-pub(crate) fn earlier(a: usize, b: usize) -> usize
+pub(crate) fn least(a: usize, b: usize) -> usize
     ensures { λ r. ⌜ r ≡ min a b ⌝ }
 {
     if a < b { a } else { b }

@@ -61,7 +61,7 @@ pub(crate) fn run_back(head: &[i16], samples: &[i16], weights: &[i16], place: Pl
     requires { ⌜ IsPlace (decisionsBy (now weights) (now head) (now samples)) place ⌝ }
     ensures { λ r. ⌜ r ≡ runAt (decisionsBy (now (weights .entry)) (now (head .entry)) (now (samples .entry))) place ⌝ }
 {
-    let stop = moves::later(place.known, moves::less(place.next, 32));
+    let stop = moves::greatest(place.known, moves::less(place.next, 32));
     let mut i = place.since;
     while stop < i {
         i -= 1;
@@ -70,5 +70,5 @@ pub(crate) fn run_back(head: &[i16], samples: &[i16], weights: &[i16], place: Pl
             return place.next - i - 1;
         }
     }
-    moves::earlier(place.ran + (place.next - place.known), 32)
+    moves::least(place.ran + (place.next - place.known), 32)
 }

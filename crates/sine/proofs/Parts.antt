@@ -1,18 +1,17 @@
 -- Laws of `weightsOf`: its length, the size of its entries, its four parts, and how a list is filled with two of them at a time.
 -- Assumes nothing.
 use mathlib.Core.Path.{_≡_, refl, sym, _∙_, ap}
-use mathlib.Core.Logic.{_≢_}
-use mathlib.Core.List.{List, [], _∷_, _++_, append-assoc}
+use mathlib.Core.List.{List, _++_, append-assoc}
 use Prim.Native.Nat.{ℕ, suc, _+_, _<_, _≤_}
 use native.Mathlib.Nat.{add-zero, add-suc, suc-add}
 use native.Mathlib.Numerals.{add-one}
 use native.Mathlib.Omega.{arith}
 use lib.IntN.{ℤ, pos}
 use lib.ListN.{length, getD, take, drop, set, length-append, length-set, length-drop, drop-of-length-le}
-use lib.Seq.{sets, take-at, take-all, drop-append-add, drop-cons, set-comm}
+use lib.Seq.{sets, take-at, take-all, drop-append-add, drop-cons}
 use Rattle.integers.specs.Sums.{Bounded}
 use Rattle.integers.proofs.Sums.{bounded-append}
-use Rattle.integers.proofs.Lists.{sets-append, sets-whole}
+use Rattle.integers.proofs.Lists.{sets-append, set-sets, sets-whole}
 use Rattle.sine.specs.Wave.{wave, quadratureOf, weightsOf}
 use Rattle.sine.proofs.Wave.{length-wave, wave-bound}
 
@@ -75,13 +74,6 @@ weights-parts a b =
     }
 
 -- ---- a list that is filled two places at a time
-
--- a store behind others, and before them
-set-sets : (l xs : List ℤ) (i k : ℕ) (y : ℤ) → i + length xs ≤ k → set (sets l i xs) k y ≡ sets (set l k y) i xs
-set-sets l [] i k y h = refl
-set-sets l (x ∷ xs) i k y h =
-    let n : i ≢ k = λ e. omega arith in
-    set-sets (set l i x) xs (suc i) k y (omega arith) ∙ ap (λ (m : List ℤ). sets m (suc i) xs) (set-comm l i k x y n)
 
 -- `lent` is to get xs, which are n, from a place on and ys behind them; it is `now`, and has the first j of each
 pub record Made (lent : List ℤ) (at n : ℕ) (xs ys now : List ℤ) (j : ℕ) : Type 0 where

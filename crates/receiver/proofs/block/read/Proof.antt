@@ -20,8 +20,8 @@ use Rattle.receiver.proofs.Blocks.{Accepted, Head, block-source, block-
 use Rattle.receiver.proofs.block.read.Statement.{statement}
 use Rattle.receiver.proofs.block.read.Tie as tie
 
-earlier-requires : tie.Need-earlier-requires
-earlier-requires c κs = tt
+least-requires : tie.Need-least-requires
+least-requires c κs = tt
 
 joined-requires : tie.Need-joined-requires
 joined-requires c κs = search needs
@@ -52,10 +52,10 @@ module _ (w : tie.After-weights) where
   allowed : Accepted state samples (start .args .events .now)
   allowed = record { range = start .pre .0; long = search needs; samples = start .pre .1 .0; room = start .pre .1 .1 }
 
-  head : Head state samples (w .before .before .before .before .earlier .result) (w .before .before .joined .result)
+  head : Head state samples (w .before .before .before .before .least .result) (w .before .before .joined .result)
   head =
       let j = w .before .before in
-      record { cut = j .before .before .earlier .ensures; long = j .joined .ensures .0; whole = j .joined .ensures .1 }
+      record { cut = j .before .before .least .ensures; long = j .joined .ensures .0; whole = j .joined .ensures .1 }
 
   weigh : w .weights .result ≡ weightsOf (tonesOf (state .band) .space) (tonesOf (state .band) .mark)
   weigh = w .weights .ensures ∙ ap (λ (t : Tones). weightsOf (t .space) (t .mark)) (w .before .tones-of .ensures)
@@ -90,4 +90,4 @@ returns c =
     (c .last-window .result) (c .last-window .ensures)
 
 pub read-spec : {M : Type 1} → statement M
-read-spec = tie.close (tie.spec earlier-requires joined-requires tones-of-requires weights-requires slice-aggregate-scan slice-aggregate-scan-2 scan-requires slice-aggregate-last-window last-window-requires same-length returns)
+read-spec = tie.close (tie.spec least-requires joined-requires tones-of-requires weights-requires slice-aggregate-scan slice-aggregate-scan-2 scan-requires slice-aggregate-last-window last-window-requires same-length returns)

@@ -26,8 +26,8 @@ all s = decisionsBy (s .args .weights .now) (s .args .head .now) (s .args .sampl
 less-requires : tie.Need-less-requires Inv-loop μ-loop
 less-requires c κs = tt
 
-later-requires : tie.Need-later-requires Inv-loop μ-loop
-later-requires c κs = tt
+greatest-requires : tie.Need-greatest-requires Inv-loop μ-loop
+greatest-requires c κs = tt
 
 loop-holds : tie.Need-loop-holds Inv-loop μ-loop
 loop-holds c = let s = c .before .before in back-start (all s) (s .args .place) (s .pre .1)
@@ -36,8 +36,8 @@ sub-i : tie.Need-sub-i Inv-loop μ-loop
 sub-i c = search needs
 
 -- where the count ends
-end-is : (c : tie.After-later Inv-loop μ-loop) → c .later .result ≡ max (c .before .before .args .place .known) (c .before .before .args .place .next - 32)
-end-is c = c .later .ensures ∙ ap (max (c .before .before .args .place .known)) (c .before .less .ensures)
+end-is : (c : tie.After-greatest Inv-loop μ-loop) → c .greatest .result ≡ max (c .before .before .args .place .known) (c .before .before .args .place .next - 32)
+end-is c = c .greatest .ensures ∙ ap (max (c .before .before .args .place .known)) (c .before .less .ensures)
 
 -- in a turn
 record Turning (known next i most : ℕ) : Type 0 where
@@ -95,24 +95,24 @@ loop-again c =
 known-first : (s : tie.Start Inv-loop μ-loop) → s .args .place .known ≤ s .args .place .next
 known-first s = omega (arith, s .pre .1 .based, s .pre .1 .passed)
 
-sub-earlier : tie.Need-sub-earlier Inv-loop μ-loop
-sub-earlier c = known-first (c .before .before .before .before .before)
+sub-least : tie.Need-sub-least Inv-loop μ-loop
+sub-least c = known-first (c .before .before .before .before .before)
 
-add-earlier : tie.Need-add-earlier Inv-loop μ-loop
-add-earlier c =
+add-least : tie.Need-add-least Inv-loop μ-loop
+add-least c =
     let s = c .before .before .before .before .before .before in
     omega (arith, s .pre .1 .low, s .pre .1 .inside, window-each (s .pre .0))
 
-earlier-requires : tie.Need-earlier-requires Inv-loop μ-loop
-earlier-requires c κs = tt
+least-requires : tie.Need-least-requires Inv-loop μ-loop
+least-requires c κs = tt
 
 returns-2 : tie.Need-returns-2 Inv-loop μ-loop
 returns-2 c =
     let o = c .before .before .before in
     let s = o .before .before .before .before in
-    c .earlier .ensures
+    c .least .ensures
     ∙ back-all (all s) (s .args .place) (s .pre .1) (o .before .loop .i) (o .before .loop .inv)
     (omega (arith, end-is (o .before .before), o .loop-test .left))
 
 pub run-back-spec : {M : Type 1} → statement M
-run-back-spec = tie.close (tie.spec Inv-loop μ-loop less-requires later-requires loop-holds sub-i judge-requires sub-result sub-result-2 returns loop-less loop-again sub-earlier add-earlier earlier-requires returns-2)
+run-back-spec = tie.close (tie.spec Inv-loop μ-loop less-requires greatest-requires loop-holds sub-i judge-requires sub-result sub-result-2 returns loop-less loop-again sub-least add-least least-requires returns-2)
