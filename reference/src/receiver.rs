@@ -205,6 +205,17 @@ pub(crate) fn decided(run: u8, stage: Stage, space: i64, mark: i64) -> (u8, Stag
     (run, stage, event)
 }
 
+/// The same from a decision: the level is good, and space is above mark. A run
+/// or a stage out of its range comes back as it is, without an event.
+pub fn moved_by(run: u8, stage: Stage, good: bool, space: bool) -> (u8, Stage, Option<u16>) {
+    if run > FULL_RUN || !stage.is_in_range() {
+        return (run, stage, None);
+    }
+    let larger = if good { GOOD_ENERGY } else { GOOD_ENERGY - 1 };
+    let [space, mark] = if space { [larger, 0] } else { [0, larger] };
+    decided(run, stage, space, mark)
+}
+
 pub(crate) fn waiting(wait: u8, slot: u8, byte: u8) -> Stage {
     Stage::Waiting { wait, slot, byte }
 }

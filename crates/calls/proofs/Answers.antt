@@ -3,20 +3,19 @@
 use mathlib.Core.Path.{_≡_, refl, sym, ap, _∙_}
 use mathlib.Core.Bool.{cond}
 use mathlib.Core.List.{List}
-use Prim.Native.Nat.{ℕ, _≤_}
+use Prim.Native.Nat.{ℕ, zero, suc, _≤_}
 use native.Mathlib.Omega.{arith}
-use borrow.Author.Tests.{eqb-true, eqb-false}
-use lib.Dec.{eqb}
+use lib.Dec.{eqb, eqb·suc-zero}
 use lib.ListN.{length, take, drop, length-append}
 use lib.Seq.{take-append-seam}
-use Rattle.integers.proofs.Tests.{cond-split}
-use Rattle.calls.specs.Outcome.{Outcome, refused, accepted, front}
+use Rattle.calls.specs.Refusals.{Test, firstOf}
+use Rattle.calls.specs.Outcome.{Outcome, refused, unlessRefused, accepted, front}
 
 module _ {S A : Type 0} (s : S) (xs lent : List A) where
   -- an accepted call
-  module _ (o : Outcome S A) (e : o ≡ accepted s xs lent) where
+  module _ (o : Outcome S (List A)) (e : o ≡ accepted s xs lent) where
     pub given-count : o .count ≡ length xs
-    given-count = ap (λ (p : Outcome S A). p .count) e
+    given-count = ap (λ (p : Outcome S (List A)). p .count) e
 
     pub given-front : take (o .count) (o .lent) ≡ xs
     given-front = ap front e ∙ take-append-seam xs (drop (length xs) lent)
@@ -26,17 +25,18 @@ module _ {S A : Type 0} (s : S) (xs lent : List A) where
 
     pub given-room : o .count ≤ length (o .lent)
     given-room =
-        omega (arith, given-count, ap (λ (p : Outcome S A). length (p .lent)) e, length-append xs (drop (length xs) lent))
+        omega (arith, given-count, ap (λ (p : Outcome S (List A)). length (p .lent)) e, length-append xs (drop (length xs) lent))
 
-  -- a call that refuses with a number that is not 0, and is accepted otherwise
-  pub record Answered (number : ℕ) (o : Outcome S A) : Type 0 where
+  -- a call that refuses by a table of tests, and is accepted otherwise
+  pub record Answered (number : ℕ) (o : Outcome S (List A)) : Type 0 where
     pub told : o .number ≡ number
     pub kept : (number ≡ 0 → ⊥) → o .lent ≡ lent
     pub given : number ≡ 0 → o ≡ accepted s xs lent
 
-  pub answered : (number : ℕ) (t : S) (o : Outcome S A) → o ≡ cond (eqb number 0) (accepted s xs lent) (refused number t lent) → Answered number o
-  answered number t o e =
-      rw e
-      (cond-split (Answered number) (eqb number 0) (accepted s xs lent) (refused number t lent)
-      (λ z. let n = eqb-true number 0 z in record { told = sym n; kept = λ h. absurd (h n); given = λ h. refl })
-      (λ z. record { told = refl; kept = λ h. refl; given = λ h. absurd (eqb-false number 0 z h) }))
+  pub answered : (tests : List Test) (t : S) (o : Outcome S (List A)) → o ≡ unlessRefused tests t lent (accepted s xs lent)
+      → Answered (firstOf tests) o
+  answered tests t o e = rw e (go (firstOf tests))
+    where
+      go : (n : ℕ) → Answered n (cond (eqb n 0) (accepted s xs lent) (refused n t lent))
+      go zero = record { told = refl; kept = λ h. absurd (h refl); given = λ h. refl }
+      go (suc n) = rw (eqb·suc-zero n) (record { told = refl; kept = λ h. refl; given = λ h. absurd (omega arith) })

@@ -1,4 +1,6 @@
 pub mod Filling
+pub mod Refusals
 pub mod Runs
+pub mod Simulation
 pub mod Lists
 pub mod Answers

@@ -6,13 +6,13 @@ use mathlib.Core.List.{List, [], _∷_, _++_}
 use Rattle.calls.specs.Outcome.{Outcome, isAccepted}
 use Rattle.calls.specs.Runs.{after, gives}
 
-module _ {S A C : Type 0} (rule : S → C → Outcome S A) where
+module _ {S L C : Type 0} (rule : S → C → Outcome S L) where
   -- each call is handed the state that the call before it, refused or not, gave
   abbrev handedOn : S → C → S
   handedOn s c = rule s c .state
 
   -- what the accepted calls give, joined in order
-  abbrev pub joined : {B : Type 0} → (Outcome S A → C → List B) → S → List C → List B
+  abbrev pub joined : {B : Type 0} → (Outcome S L → C → List B) → S → List C → List B
   joined pick = gives handedOn (λ s c. cond (isAccepted (rule s c)) (pick (rule s c) c) [])
 
   -- the accepted calls themselves

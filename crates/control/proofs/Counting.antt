@@ -1,4 +1,4 @@
--- How often decisions can bring an event. The progress of a stage grows by at most 1 with each, and an event needs 48 of it and
+-- How often decisions can bring an event. What has elapsed at a stage grows by at most 1 with each, and an event needs 48 of it and
 -- starts again at none: two events are at least 49 decisions apart.
 -- Assumes nothing.
 use mathlib.Core.Path.{_≡_}
@@ -13,18 +13,19 @@ use Rattle.control.specs.declared.Decision.{Decision}
 use Rattle.control.specs.declared.Next.{Next}
 use Rattle.control.specs.declared.Stage.{Stage}
 use Rattle.control.specs.declared.Stage.the-variants.{Searching, Waiting}
-use Rattle.control.specs.Control.{Control, isStage}
-use Rattle.control.specs.Rules.{numbers, runAfter, taken, nextOf, controlAfter, reported}
+use Rattle.control.specs.declared.Control.{Control}
+use Rattle.control.specs.Ranges.{isStage}
+use Rattle.control.specs.Rules.{numbers, runAfter, taken, nextOf, movedBy, controlAfter, reported}
 use Rattle.control.proofs.Ranges.{wait-low, stage-wait}
 
 -- 49 less the samples that are still to come before there can be an event
-abbrev pub progress : Stage → ℕ
-progress Searching = 0
-progress (Waiting wait slot byte) = cond (eqb slot 0) (17 - wait) (49 - wait)
+abbrev pub elapsed : Stage → ℕ
+elapsed Searching = 0
+elapsed (Waiting wait slot byte) = cond (eqb slot 0) (17 - wait) (49 - wait)
 
--- from a stage with progress p
+-- from a stage at which p has elapsed
 abbrev Slow : ℕ → Next → Type 0
-Slow p n = 49 * length (numbers (n .event)) + progress (n .stage) ≤ p + 1
+Slow p n = 49 * length (numbers (n .event)) + elapsed (n .stage) ≤ p + 1
 
 taken-slow : (wait slot byte : ℕ) (d : Decision) → wait ≤ 1 → Slow (cond (eqb slot 0) (17 - wait) (49 - wait)) (taken slot byte d)
 unfolding taken
@@ -35,9 +36,9 @@ taken-slow wait slot byte d h =
     (cond-case (Slow (49 - wait)) (not (d .good)) _ _ (omega arith) (rw (ne-eqb (slot + 1) 0 (λ e. omega arith)) (omega arith)))
     (cond-case (Slow (49 - wait)) (not (d .good)) _ _ (omega arith) (cond-case (Slow (49 - wait)) (d .space) _ _ (omega arith) (omega arith))))
 
-next-slow : (stage : Stage) (run : ℕ) (d : Decision) → Slow (progress stage) (nextOf stage run d)
+next-slow : (stage : Stage) (run : ℕ) (d : Decision) → Slow (elapsed stage) (nextOf stage run d)
 unfolding nextOf
-next-slow Searching run d = cond-case (λ (s : Stage). 49 * 0 + progress s ≤ 1) (eqb run 32 && d .space) _ _ (omega arith) (omega arith)
+next-slow Searching run d = cond-case (λ (s : Stage). 49 * 0 + elapsed s ≤ 1) (eqb run 32 && d .space) _ _ (omega arith) (omega arith)
 next-slow (Waiting wait slot byte) run d =
     cond-split (Slow (cond (eqb slot 0) (17 - wait) (49 - wait))) (eqb (wait - 1) 0) _ _
     (λ e. let z : wait - 1 ≡ 0 = eqb-true (wait - 1) 0 e in taken-slow wait slot byte d (omega arith))
@@ -46,13 +47,13 @@ next-slow (Waiting wait slot byte) run d =
     let h : 1 < wait = omega (arith, nz) in
     cond-both (λ (p q : ℕ). 49 * 0 + p ≤ q + 1) (eqb slot 0) (λ z. omega arith) (λ z. omega arith))
 
-pub control-slow : (c : Control) (d : Decision) → 49 * length (reported c d) + progress (controlAfter c d .stage) ≤ progress (c .stage) + 1
-unfolding controlAfter reported
+pub control-slow : (c : Control) (d : Decision) → 49 * length (reported c d) + elapsed (controlAfter c d .stage) ≤ elapsed (c .stage) + 1
+unfolding controlAfter reported movedBy
 control-slow c d = next-slow (c .stage) (runAfter (c .run) (d .good)) d
 
 -- in its ranges a stage has at most 48
-pub progress-most : (stage : Stage) → isStage stage ≡ true → progress stage ≤ 48
-progress-most Searching h = omega arith
-progress-most (Waiting wait slot byte) h =
+pub elapsed-most : (stage : Stage) → isStage stage ≡ true → elapsed stage ≤ 48
+elapsed-most Searching h = omega arith
+elapsed-most (Waiting wait slot byte) h =
     let l : 1 ≤ wait = wait-low wait slot (stage-wait wait slot byte h) in
     cond-case (λ (n : ℕ). n ≤ 48) (eqb slot 0) (17 - wait) (49 - wait) (omega arith) (omega arith)

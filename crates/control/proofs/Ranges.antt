@@ -15,8 +15,9 @@ use Rattle.control.specs.declared.Decision.{Decision}
 use Rattle.control.specs.declared.Next.{Next}
 use Rattle.control.specs.declared.Stage.{Stage}
 use Rattle.control.specs.declared.Stage.the-variants.{Searching, Waiting}
-use Rattle.control.specs.Control.{Control, isWait, isSlot, isStage, isControl}
-use Rattle.control.specs.Rules.{runAfter, gathered, taken, nextOf, controlAfter, follow}
+use Rattle.control.specs.declared.Control.{Control}
+use Rattle.control.specs.Ranges.{isWait, isSlot, isStage, isControl}
+use Rattle.control.specs.Rules.{runAfter, gathered, taken, nextOf, movedBy, controlAfter, follow}
 
 -- ---- waits
 
@@ -118,7 +119,7 @@ pub run-kept : (run : ℕ) (good : Bool) → runAfter run good ≤ 32
 run-kept run good = cond-case (λ (n : ℕ). n ≤ 32) good (min (run + 1) 32) 0 (omega arith) (omega arith)
 
 pub control-kept : (c : Control) (d : Decision) → isControl c ≡ true → isControl (controlAfter c d) ≡ true
-unfolding isControl controlAfter
+unfolding isControl controlAfter movedBy
 control-kept c d h =
     let run : ℕ = runAfter (c .run) (d .good) in
     and-intro (le-leb run 32 (run-kept (c .run) (d .good))) (next-kept (c .stage) run d (control-stage c h))

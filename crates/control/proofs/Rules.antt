@@ -13,8 +13,10 @@ use Rattle.control.specs.declared.Asked.the-variants.{Tone, Slot}
 use Rattle.control.specs.declared.Next.{Next}
 use Rattle.control.specs.declared.Stage.{Stage}
 use Rattle.control.specs.declared.Stage.the-variants.{Searching, Waiting}
-use Rattle.control.specs.Control.{Control, isSlot}
-use Rattle.control.specs.Rules.{carrierLost, noStop, numbers, quiet, report, runAfter, gathered, taken, nextOf, isFound, askedBy, waitOver, controlAfter, reported}
+use Rattle.control.specs.declared.Control.{Control}
+use Rattle.control.specs.Ranges.{isSlot}
+use Rattle.control.specs.Rules.{carrierLost, noStop, numbers, quiet, report, runAfter, gathered, taken, nextOf, movedBy, controlAfter, reported}
+use Rattle.control.specs.AsCoded.{isFound, askedBy, waitOver}
 
 -- ---- the run
 
@@ -107,9 +109,9 @@ asks stage a e = rw e (asks-by stage)
 
 module _ (c : Control) (d : Decision) (run : ℕ) (n : Next) (er : run ≡ runAfter (c .run) (d .good)) (en : n ≡ nextOf (c .stage) run d) where
   pub control-after : controlAfter c d ≡ record { run = run; stage = n .stage }
-  unfolding controlAfter
+  unfolding controlAfter movedBy
   control-after = rw (en, er)
 
   pub events-reported : reported c d ≡ numbers (n .event)
-  unfolding reported
+  unfolding reported movedBy
   events-reported = rw (en, er)

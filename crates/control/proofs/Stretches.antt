@@ -16,8 +16,9 @@ use Rattle.control.specs.declared.Decision.{Decision}
 use Rattle.control.specs.declared.Next.{Next}
 use Rattle.control.specs.declared.Stage.{Stage}
 use Rattle.control.specs.declared.Stage.the-variants.{Waiting}
-use Rattle.control.specs.Control.{Control}
-use Rattle.control.specs.Rules.{numbers, quiet, runAfter, nextOf, isFound, controlAfter, reported, follow, reports, runOver, NoneFound}
+use Rattle.control.specs.declared.Control.{Control}
+use Rattle.control.specs.Rules.{numbers, quiet, runAfter, nextOf, controlAfter, reported, follow, reports}
+use Rattle.control.specs.AsCoded.{isFound, runOver, NoneFound}
 use Rattle.control.proofs.Ranges.{run-kept}
 use Rattle.control.proofs.Rules.{wait-more, IsSearch, control-after, events-reported}
 

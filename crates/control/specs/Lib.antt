@@ -1,2 +1,3 @@
-pub mod Control
+pub mod Ranges
 pub mod Rules
+pub mod AsCoded

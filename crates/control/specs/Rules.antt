@@ -1,20 +1,18 @@
 -- What a decision does to run and stage, and its event: document 01, "Reader, step by step", rules 3 to 5, as decision 17 reads them.
 -- Assumes nothing.
-use mathlib.Core.Path.{_≡_}
-use mathlib.Core.Bool.{Bool, true, false, cond, not, _&&_, Bool·beq}
+use mathlib.Core.Bool.{Bool, cond, not, _&&_, _||_}
 use mathlib.Core.List.{List, [], _∷_}
 use Prim.Native.Nat.{ℕ, _+_, _-_, _^_, min}
-use lib.Dec.{leb, eqb}
+use lib.Dec.{ltb, leb, eqb}
 use Rattle.calls.specs.Runs.{after, gives}
 use Rattle.control.specs.declared.Decision.{Decision}
 use Rattle.control.specs.declared.Stage.{Stage}
 use Rattle.control.specs.declared.Stage.the-variants.{Searching, Waiting}
 use Rattle.control.specs.declared.Event.{Event}
 use Rattle.control.specs.declared.Event.the-variants.{Nothing, Number}
-use Rattle.control.specs.declared.Asked.{Asked}
-use Rattle.control.specs.declared.Asked.the-variants.{Tone, Slot}
 use Rattle.control.specs.declared.Next.{Next}
-use Rattle.control.specs.Control.{Control, isSlot}
+use Rattle.control.specs.declared.Control.{Control}
+use Rattle.control.specs.declared.Moved.{Moved}
 
 -- ---- events
 
@@ -24,6 +22,10 @@ noStop = 256
 
 abbrev pub carrierLost : ℕ
 carrierLost = 257
+
+-- every event is one of these (proofs/Events)
+unfoldable pub isEvent : ℕ → Bool
+isEvent n = ltb n 256 || (eqb n noStop || eqb n carrierLost)
 
 -- the numbers of an event
 abbrev pub numbers : Event → List ℕ
@@ -77,30 +79,28 @@ unfoldable pub nextOf : Stage → ℕ → Decision → Next
 nextOf Searching run d = quiet (searched run d)
 nextOf (Waiting wait slot byte) run d = cond (eqb (wait - 1) 0) (taken slot byte d) (quiet (Waiting (wait - 1) slot byte))
 
--- ---- the same in parts, as the code has it
+-- ---- rules 3 to 5: what a sample does, by the decision at its window
 
--- a search ends with run 32 and space above mark, or not, as it asks
-abbrev pub isFound : Bool → ℕ → Decision → Bool
-isFound space run d = eqb run 32 && Bool·beq (d .space) space
+-- the run, and from the run after the sample the stage and the event
+unfoldable pub movedBy : Control → Decision → Moved
+movedBy c d =
+    let run : ℕ = runAfter (c .run) (d .good) in
+    let n : Next = nextOf (c .stage) run d in
+    record { control = record { run = run; stage = n .stage }; event = n .event }
 
--- what a stage asks for
-abbrev pub askedBy : Stage → Asked
-askedBy Searching = Tone true (Waiting 16 0 0)
-askedBy (Waiting wait slot byte) = Slot wait slot byte
-
--- what the wait for a slot ends in; a slot out of its ranges, of which document 01 says nothing, is given up
-abbrev pub waitOver : ℕ → ℕ → Decision → Next
-waitOver slot byte d = cond (isSlot slot byte) (taken slot byte d) (quiet Searching)
+-- what the code gives for a run and a stage out of their ranges, of which document 01 says nothing
+abbrev pub unmoved : Control → Moved
+unmoved c = record { control = c; event = Nothing }
 
 -- ---- decisions
 
 -- run and stage after one
 unfoldable pub controlAfter : Control → Decision → Control
-controlAfter c d = let run : ℕ = runAfter (c .run) (d .good) in record { run = run; stage = nextOf (c .stage) run d .stage }
+controlAfter c d = movedBy c d .control
 
 -- its events, one at most
 unfoldable pub reported : Control → Decision → List ℕ
-reported c d = numbers (nextOf (c .stage) (runAfter (c .run) (d .good)) d .event)
+reported c d = numbers (movedBy c d .event)
 
 -- run and stage after a list of them, and the events in order
 abbrev pub follow : Control → List Decision → Control
@@ -108,14 +108,3 @@ follow = after controlAfter
 
 abbrev pub reports : Control → List Decision → List ℕ
 reports = gives controlAfter reported
-
--- ---- lists of decisions in parts, as the code has it
-
--- the run after a list of them
-abbrev pub runOver : ℕ → List Decision → ℕ
-runOver = after (λ run d. runAfter run (d .good))
-
--- none of them ends the search
-unfoldable pub NoneFound : Bool → ℕ → List Decision → Type 0
-NoneFound space run [] = Unit
-NoneFound space run (d ∷ ds) = (isFound space (runAfter run (d .good)) d ≡ false) × NoneFound space (runAfter run (d .good)) ds

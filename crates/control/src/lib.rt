@@ -1,8 +1,11 @@
 // What decisions do to a receiver: to its run and its stage, and which events they bring. How a window comes to its decision is
-// not known here. Every function takes every value of its types: a slot out of its ranges is given up when its wait ends.
+// not known here. `moved_by` is the whole rule of a sample. `asks_for`, `is_found` and `take` are parts of it, for a reading that does
+// not judge every window. Every function takes every value of its types.
 ghost use mathlib.Core.Path.{_≡_};
-ghost use Rattle.control.specs.Control.{isStage, isControl};
-ghost use Rattle.control.specs.Rules.{isFound, askedBy, waitOver};
+ghost use mathlib.Core.Bool.{true, cond};
+ghost use Rattle.control.specs.Ranges.{isStage, isControl};
+ghost use Rattle.control.specs.Rules.{runAfter, nextOf, movedBy, unmoved};
+ghost use Rattle.control.specs.AsCoded.{isFound, askedBy, waitOver};
 
 mod slot;
 
@@ -11,6 +14,12 @@ mod slot;
 pub enum Stage {
     Searching,
     Waiting { wait: u8, slot: u8, byte: u8 },
+}
+
+// The part of a receiver's state that decisions move: the run of samples with a good level, and the stage.
+pub struct Control {
+    pub run: u8,
+    pub stage: Stage,
 }
 
 // What the energies of a window decide: the level is good; space is above mark.
@@ -38,6 +47,73 @@ pub struct Next {
     pub event: Event,
 }
 
+// Run and stage after a sample, and its event.
+pub struct Moved {
+    pub control: Control,
+    pub event: Event,
+}
+
+// Rules 3 to 5 of document 01 for one sample, by the decision at its window. Out of their ranges run and stage come back as they are, and
+// there is no event.
+pub fn moved_by(control: Control, d: Decision) -> Moved
+    ensures { λ r. ⌜ r ≡ cond (isControl control) (movedBy control d) (unmoved control) ⌝ }
+{
+    if !is_control(control) {
+        return Moved {
+            control,
+            event: Event::Nothing,
+        };
+    }
+    let stage = control.stage;
+    let run = run_after(control.run, d.good);
+    let n = next_of(stage, run, d);
+    let then = n.stage;
+    let event = n.event;
+    Moved {
+        control: Control { run, stage: then },
+        event,
+    }
+}
+
+fn run_after(run: u8, good: bool) -> u8
+    ensures { λ r. ⌜ r ≡ runAfter run good ⌝ }
+{
+    if !good {
+        0
+    } else if run < 32 {
+        run + 1
+    } else {
+        32
+    }
+}
+
+// The stage after a sample, from the run after it, and the event.
+fn next_of(stage: Stage, run: u8, d: Decision) -> Next
+    requires { ⌜ isStage stage ≡ true ⌝ }
+    ensures { λ r. ⌜ r ≡ nextOf stage run d ⌝ }
+{
+    match asks_for(stage) {
+        Asked::Tone { space, then } => {
+            if is_found(space, run as usize, d) {
+                slot::quiet(then)
+            } else {
+                slot::quiet(stage)
+            }
+        }
+        Asked::Slot { wait, slot, byte } => {
+            if wait == 1 {
+                take(slot, byte, d)
+            } else {
+                slot::quiet(Stage::Waiting {
+                    wait: wait - 1,
+                    slot,
+                    byte,
+                })
+            }
+        }
+    }
+}
+
 // A search ends: the carrier has stood for 32 samples, and space is above mark, or not, as the search asks.
 pub fn is_found(space: bool, run: usize, d: Decision) -> bool
     ensures { λ r. ⌜ r ≡ isFound space run d ⌝ }
@@ -62,22 +138,23 @@ pub fn asks_for(stage: Stage) -> Asked
     }
 }
 
-// The stage after the sample at which a wait for a slot ends, and the event.
+// The stage after the sample at which a wait for a slot ends, and the event. A slot out of its ranges is given up.
 pub fn take(slot: u8, byte: u8, d: Decision) -> Next
     ensures { λ r. ⌜ r ≡ waitOver slot byte d ⌝ }
 {
     if slot::is_slot(slot, byte) {
         slot::take_slot(slot, byte, d)
     } else {
-        slot::searching()
+        slot::quiet(Stage::Searching)
     }
 }
 
 // Run and stage are in their ranges.
-pub fn is_control(run: u8, stage: Stage) -> bool
-    ensures { λ r. ⌜ r ≡ isControl (record { run = run; stage = stage }) ⌝ }
+pub fn is_control(control: Control) -> bool
+    ensures { λ r. ⌜ r ≡ isControl control ⌝ }
 {
-    run <= 32 && is_stage(stage)
+    let stage = control.stage;
+    control.run <= 32 && is_stage(stage)
 }
 
 fn is_stage(stage: Stage) -> bool

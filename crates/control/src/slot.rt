@@ -2,8 +2,8 @@
 ghost use mathlib.Core.Path.{_≡_};
 ghost use mathlib.Core.Bool.{true};
 ghost use Prim.Native.Nat.{_-_, _^_, _≤_, _<_};
-ghost use Rattle.control.specs.declared.Stage.the-variants.{Searching, Waiting};
-ghost use Rattle.control.specs.Control.{isWait, isSlot};
+ghost use Rattle.control.specs.declared.Stage.the-variants.{Waiting};
+ghost use Rattle.control.specs.Ranges.{isWait, isSlot};
 ghost use Rattle.control.specs.Rules.{quiet, report, gathered, taken};
 use super::Decision;
 use super::Event;
@@ -19,7 +19,7 @@ pub(crate) fn take_slot(slot: u8, byte: u8, d: Decision) -> Next
         if d.good && d.space {
             waiting(1, 0)
         } else {
-            searching()
+            quiet(Stage::Searching)
         }
     } else if !d.good {
         reporting(257)
@@ -52,21 +52,18 @@ fn weight(slot: u8) -> u8
 fn waiting(slot: u8, byte: u8) -> Next
     ensures { λ r. ⌜ r ≡ quiet (Waiting 32 slot byte) ⌝ }
 {
-    Next {
-        stage: Stage::Waiting {
-            wait: 32,
-            slot,
-            byte,
-        },
-        event: Event::Nothing,
-    }
+    quiet(Stage::Waiting {
+        wait: 32,
+        slot,
+        byte,
+    })
 }
 
-pub(crate) fn searching() -> Next
-    ensures { λ r. ⌜ r ≡ quiet Searching ⌝ }
+pub(crate) fn quiet(stage: Stage) -> Next
+    ensures { λ r. ⌜ r ≡ quiet stage ⌝ }
 {
     Next {
-        stage: Stage::Searching,
+        stage,
         event: Event::Nothing,
     }
 }

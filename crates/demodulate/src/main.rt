@@ -4,10 +4,10 @@ use libc::STDIN_FILENO;
 use libc::STDOUT_FILENO;
 
 fn main() {
-    // One byte more than a sheet has at most, so that a sheet that is too long is refused.
-    let mut text = [0u8; 65537];
+    // What is behind these bytes changes nothing that is printed: `CutInput` of `demodulator`.
+    let mut text = [0u8; demodulator::MOST_INPUT];
     let n = io::read_full(STDIN_FILENO, &mut text);
-    let mut out = [0u8; 4806];
+    let mut out = [0u8; demodulator::MOST_PRINTED];
     let len = demodulator::demodulate(&text[..n], &mut out);
     // A program has no exit status to tell it by.
     if !io::write_all(STDOUT_FILENO, &out[..len]) {

@@ -1,2 +1,4 @@
+pub mod Rows
 pub mod Cases
 pub mod Printed
+pub mod Cut

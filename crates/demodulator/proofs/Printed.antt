@@ -6,23 +6,28 @@ use Prim.Native.Nat.{ℕ, suc, _+_, _*_, _<_, _≤_, zero-le}
 use native.Mathlib.Numerals.{add-one}
 use native.Mathlib.Omega.{arith}
 use borrow.Author.Tests.{lt-ltb}
-use lib.Dec.{ltb, eqb}
+use lib.Dec.{ltb}
 use lib.ListN.{length, getD, drop, length-append, drop-of-length-le}
 use lib.Seq.{sets, drop-cons}
+use Rattle.integers.specs.All.{All, none, more}
 use Rattle.integers.proofs.Tests.{cond-case}
 use Rattle.integers.proofs.Lists.{sets-append, sets-front}
+use Rattle.calls.specs.Outcome.{over}
 use Rattle.calls.proofs.Filling.{Filling, filling-start, filling-more, filling-end}
 use Rattle.digits.specs.Numbers.{decimal, hexadecimal}
 use Rattle.digits.proofs.Numbers.{length-decimal, length-hexadecimal}
-use Rattle.printing.specs.Printing.{over}
-use Rattle.demodulator.specs.Lines.{kindOf, valueOf, fieldsOf, eventLine, eventLines, namesLine, eventsText}
+use Rattle.receiver.specs.Calls.{mostEvents}
+use Rattle.demodulator.specs.Lines.{Kind, kinds, isOf, nameIn, kindOf, valueOf, fieldsOf, eventLine, eventLines, namesLine, eventsText, mostPrinted}
+use Rattle.demodulator.proofs.Rows.{char-row}
 
 -- ---- lengths
 
+length-name : (ks : List Kind) (event : ℕ) → All (λ k. length (k .name) ≤ 6) ks → length (nameIn ks event) ≤ 6
+length-name [] event none = zero-le
+length-name (k ∷ ks) event (more h hs) = cond-case (λ (l : List ℕ). length l ≤ 6) (isOf k event) _ _ h (length-name ks event hs)
+
 length-kind : (event : ℕ) → length (kindOf event) ≤ 6
-length-kind event =
-    cond-case (λ (l : List ℕ). length l ≤ 6) (ltb event 256) _ _ (omega arith)
-    (cond-case (λ (l : List ℕ). length l ≤ 6) (eqb event 256) _ _ (omega arith) (omega arith))
+length-kind event = length-name kinds event (more (omega arith) (more (omega arith) (more (omega arith) none)))
 
 length-value : (event : ℕ) → length (valueOf event) ≡ 2
 length-value event = cond-case (λ (l : List ℕ). length l ≡ 2) (ltb event 256) _ _ (length-hexadecimal event) refl
@@ -56,9 +61,12 @@ length-lines place (event ∷ events) h =
 -- ---- parts that are put one behind the other
 
 -- the fields of a character
+pub char-parts : (event : ℕ) → event < 256 → 32 ∷ 99 ∷ 104 ∷ 97 ∷ 114 ∷ 32 ∷ (hexadecimal event ++ (10 ∷ [])) ≡ fieldsOf event
+char-parts event h = rw (lt-ltb event 256 h, char-row event h .0, char-row event h .1)
+
 pub char-length : (event : ℕ) → event < 256 → 9 ≡ length (fieldsOf event)
 unfolding hexadecimal
-char-length event h = rw (lt-ltb event 256 h)
+char-length event h = ap length (char-parts event h)
 
 -- a place and its fields
 module _ (place event : ℕ) where
@@ -79,7 +87,7 @@ module _ (events : List ℕ) where
   unfolding eventsText
   text-length = length-append namesLine (eventLines 0 events)
 
-  pub text-most : length events ≤ 342 → length (eventsText events) ≤ 4806
+  pub text-most : length events ≤ mostEvents → length (eventsText events) ≤ mostPrinted
   text-most few = omega (arith, text-length, length-lines 0 events (omega arith))
 
   pub text-parts : (lent : List ℕ) → length (eventsText events) ≤ length lent
@@ -112,7 +120,7 @@ module _ (lent events : List ℕ) where
       shares : at + length line + length rest ≡ 18 + length (eventLines 0 events)
       shares = omega (arith, ap length lines-next, length-append line rest, p .counted)
 
-      pub printed-room : length events ≤ 342 → at + length line ≤ 4806
+      pub printed-room : length events ≤ mostEvents → at + length line ≤ mostPrinted
       printed-room few = omega (arith, shares, text-length events, text-most events few)
 
       pub printed-more : Printed lent events (sets now at line) (at + length line) (place + 1)

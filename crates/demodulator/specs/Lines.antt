@@ -1,16 +1,58 @@
 -- The lines of events that `demodulate` prints, in ASCII codes: document 01, "Sheet and programs".
 -- Assumes nothing.
-use mathlib.Core.Bool.{cond}
+use mathlib.Core.Path.{_≡_}
+use mathlib.Core.Bool.{Bool, true, false, cond, _&&_, _||_}
 use mathlib.Core.List.{List, [], _∷_, _++_}
-use Prim.Native.Nat.{ℕ, suc}
-use lib.Dec.{ltb, eqb}
+use Prim.Native.Nat.{ℕ, suc, _+_, _*_}
+use lib.Dec.{ltb, leb}
+use Rattle.integers.specs.All.{All}
 use Rattle.digits.specs.Numbers.{decimal, hexadecimal}
+use Rattle.receiver.specs.Calls.{mostEvents}
 
--- `char` for 0 to 255, `nostop` for 256, and `lost` for 257, above which there is no event
+-- ---- kinds of events
+
+-- the numbers from a first to a last one, and the name of their kind
+pub record Kind : Type 0 where
+  pub first : ℕ
+  pub last : ℕ
+  pub name : List ℕ
+
+abbrev pub kind : ℕ → ℕ → List ℕ → Kind
+kind first last name = record { first = first; last = last; name = name }
+
+-- `char` for 0 to 255, `nostop` for 256, and `lost` for 257
+abbrev pub kinds : List Kind
+kinds =
+    kind 0 255 (99 ∷ 104 ∷ 97 ∷ 114 ∷ [])
+    ∷ kind 256 256 (110 ∷ 111 ∷ 115 ∷ 116 ∷ 111 ∷ 112 ∷ [])
+    ∷ kind 257 257 (108 ∷ 111 ∷ 115 ∷ 116 ∷ [])
+    ∷ []
+
+-- a row has a number
+abbrev pub isOf : Kind → ℕ → Bool
+isOf k event = leb (k .first) event && leb event (k .last)
+
+-- a row of the table has it
+abbrev pub hasRow : List Kind → ℕ → Bool
+hasRow [] event = false
+hasRow (k ∷ ks) event = isOf k event || hasRow ks event
+
+-- the name of the row that has it; without a row it has none
+abbrev pub nameIn : List Kind → ℕ → List ℕ
+nameIn [] event = []
+nameIn (k ∷ ks) event = cond (isOf k event) (k .name) (nameIn ks event)
+
+abbrev pub hasKind : ℕ → Bool
+hasKind = hasRow kinds
+
 abbrev pub kindOf : ℕ → List ℕ
-kindOf event =
-    cond (ltb event 256) (99 ∷ 104 ∷ 97 ∷ 114 ∷ [])
-    (cond (eqb event 256) (110 ∷ 111 ∷ 115 ∷ 116 ∷ 111 ∷ 112 ∷ []) (108 ∷ 111 ∷ 115 ∷ 116 ∷ []))
+kindOf = nameIn kinds
+
+-- every number of a list has a kind
+abbrev pub HaveKinds : List ℕ → Type 0
+HaveKinds = All (λ event. hasKind event ≡ true)
+
+-- ---- lines
 
 -- the character as two hexadecimal digits, or `--` for a number above 255
 abbrev pub valueOf : ℕ → List ℕ
@@ -36,3 +78,9 @@ namesLine = 110 ∷ 117 ∷ 109 ∷ 98 ∷ 101 ∷ 114 ∷ 32 ∷ 107 ∷ 105 �
 -- a reading that is accepted
 unfoldable pub eventsText : List ℕ → List ℕ
 eventsText events = namesLine ++ eventLines 0 events
+
+-- ---- the most that is printed
+
+-- 4,806 bytes: the names line, and for each event a line of at most 14 bytes: a place of three digits, two spaces, `nostop`, `--` and the line feed
+abbrev pub mostPrinted : ℕ
+mostPrinted = 18 + 14 * mostEvents

@@ -4,27 +4,26 @@ ghost use mathlib.Core.Bool.{true};
 ghost use Prim.Native.Nat.{_≤_};
 ghost use lib.ListN.{length};
 ghost use Rattle.tones.specs.Bands.{isBand};
-ghost use Rattle.tones.specs.Samples.{areSamples};
+ghost use Rattle.tones.specs.Samples.{mostSamples, areSamples};
 ghost use Rattle.receiver.specs.Step.{eventsAfter};
 ghost use Rattle.receiver.specs.Calls.{fresh};
-ghost use Rattle.printing.specs.Printing.{over};
-ghost use Rattle.demodulator.specs.Lines.{eventsText};
+ghost use Rattle.calls.specs.Outcome.{over};
+ghost use Rattle.demodulator.specs.Lines.{mostPrinted, eventsText};
 use crate::lines::put_events;
 use receiver::Receiver;
 
 // The lines of the samples' events over the buffer's front, and their length.
 pub(crate) fn put_events_of(band: u8, samples: &[i16], out: &mut [u8]) -> usize
     requires { ⌜ isBand band ≡ true ⌝ }
-    requires { ⌜ length (now samples) ≤ 16384 ⌝ }
+    requires { ⌜ length (now samples) ≤ mostSamples ⌝ }
     requires { ⌜ areSamples (now samples) ≡ true ⌝ }
-    requires { ⌜ 4806 ≤ length (now out) ⌝ }
+    requires { ⌜ mostPrinted ≤ length (now out) ⌝ }
     ensures count { λ r. ⌜ r ≡ length (eventsText (eventsAfter (fresh band) (now (samples .entry)))) ⌝ }
     ensures lent { λ r. ⌜ now (out .exit) ≡ over (eventsText (eventsAfter (fresh band) (now (samples .entry)))) (now (out .entry)) ⌝ }
 {
     let opened = Receiver::open(band);
     let fresh = opened.receiver;
-    // 16,384 / 48 + 1 places are enough for every sheet.
-    let mut events = [0u16; 342];
+    let mut events = [0u16; receiver::MOST_EVENTS];
     let reading = fresh.block(samples, &mut events);
     let answer = reading.answer;
     let n = answer.count;

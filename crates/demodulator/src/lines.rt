@@ -1,19 +1,22 @@
 // The lines of events, put into a buffer.
 ghost use mathlib.Core.Path.{_≡_};
+ghost use mathlib.Core.Bool.{true};
 ghost use Prim.Native.Nat.{_+_, _≤_};
 ghost use lib.ListN.{length};
 ghost use lib.Seq.{sets};
-ghost use Rattle.printing.specs.Printing.{over};
-ghost use Rattle.demodulator.specs.Lines.{fieldsOf, eventLine, eventsText};
+ghost use Rattle.calls.specs.Outcome.{over};
+ghost use Rattle.receiver.specs.Calls.{mostEvents};
+ghost use Rattle.demodulator.specs.Lines.{mostPrinted, hasKind, HaveKinds, fieldsOf, eventLine, eventsText};
 
 // The names line and a line for each event over the buffer's front, and their length.
 pub(crate) fn put_events(out: &mut [u8], events: &[u16]) -> usize
-    requires { ⌜ length (now events) ≤ 342 ⌝ }
-    requires { ⌜ 4806 ≤ length (now out) ⌝ }
+    requires { ⌜ length (now events) ≤ mostEvents ⌝ }
+    requires { ⌜ HaveKinds (now events) ⌝ }
+    requires { ⌜ mostPrinted ≤ length (now out) ⌝ }
     ensures count { λ r. ⌜ r ≡ length (eventsText (now (events .entry))) ⌝ }
     ensures lent { λ r. ⌜ now (out .exit) ≡ over (eventsText (now (events .entry))) (now (out .entry)) ⌝ }
 {
-    text::put(out, 0, b"number kind value\n");
+    text::put_bytes(out, 0, b"number kind value\n");
     let mut at: usize = 18;
     let mut place: usize = 0;
     while place < events.len() {
@@ -25,7 +28,8 @@ pub(crate) fn put_events(out: &mut [u8], events: &[u16]) -> usize
 
 // Puts an event's line from the place `at` on, and gives the place behind it.
 fn put_event(out: &mut [u8], at: usize, place: u16, event: u16) -> usize
-    requires { ⌜ at + length (eventLine place event) ≤ 4806 ⌝ }
+    requires { ⌜ hasKind event ≡ true ⌝ }
+    requires { ⌜ at + length (eventLine place event) ≤ mostPrinted ⌝ }
     ensures place { λ r. ⌜ r ≡ at + length (eventLine place event) ⌝ }
     ensures lent { λ r. ⌜ now (out .exit) ≡ sets (now (out .entry)) at (eventLine place event) ⌝ }
 {
@@ -35,20 +39,21 @@ fn put_event(out: &mut [u8], at: usize, place: u16, event: u16) -> usize
 
 // Its kind and value likewise.
 fn put_fields(out: &mut [u8], at: usize, event: u16) -> usize
-    requires { ⌜ at + length (fieldsOf event) ≤ 4806 ⌝ }
+    requires { ⌜ hasKind event ≡ true ⌝ }
+    requires { ⌜ at + length (fieldsOf event) ≤ mostPrinted ⌝ }
     ensures place { λ r. ⌜ r ≡ at + length (fieldsOf event) ⌝ }
     ensures lent { λ r. ⌜ now (out .exit) ≡ sets (now (out .entry)) at (fieldsOf event) ⌝ }
 {
     if event < 256 {
         let fields = char_fields(event as u8);
-        text::put(out, at, &fields);
+        text::put_bytes(out, at, &fields);
         return at + 9;
     }
     if event == 256 {
-        text::put(out, at, b" nostop --\n");
+        text::put_bytes(out, at, b" nostop --\n");
         return at + 11;
     }
-    text::put(out, at, b" lost --\n");
+    text::put_bytes(out, at, b" lost --\n");
     at + 9
 }
 

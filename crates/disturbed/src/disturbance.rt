@@ -1,5 +1,6 @@
-// Disturbances that are as large as is allowed: 100 or -100 at every sample.
+// Disturbances that are as large as is allowed, up or down, at every sample.
 ghost use Prim.Native.Nat.{_<_};
+use loopback::DISTURBANCE;
 use tones::Tones;
 
 // The samples of the longest sending: leader, 100 characters and trailer.
@@ -24,19 +25,19 @@ pub(crate) fn random_signs() -> [i16; LONGEST] {
     let mut x: u32 = 1;
     let mut i: usize = 0;
     while i < LONGEST {
-        numbers[i] = signed_hundred(32768 < x);
+        numbers[i] = largest(32768 < x);
         x = next_number(x);
         i += 1;
     }
     numbers
 }
 
-fn signed_hundred(positive: bool) -> i16 {
-    if positive { 100 } else { -100 }
+fn largest(positive: bool) -> i16 {
+    if positive { DISTURBANCE } else { -DISTURBANCE }
 }
 
 fn sign_at(phase: u16) -> i16 {
-    signed_hundred(0 <= sine::sine(phase as usize))
+    largest(0 <= sine::sine(phase as usize))
 }
 
 fn next_phase(phase: u16, step: u16) -> u16 {

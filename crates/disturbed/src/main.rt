@@ -11,6 +11,8 @@ use crate::disturbance::random_signs;
 use crate::disturbance::signs;
 use crate::run::run;
 use libc::STDIN_FILENO;
+use loopback::DISTURBANCE;
+use tones::MOST_SAMPLES;
 use tones::Tones;
 
 fn main() {
@@ -59,12 +61,12 @@ fn in_blocks(band: u8, message: &[u8], name: &[u8], disturbance: &[i16]) {
     run(band, message, name, disturbance, 1);
     run(band, message, name, disturbance, 31);
     run(band, message, name, disturbance, 320);
-    run(band, message, name, disturbance, 16384);
+    run(band, message, name, disturbance, MOST_SAMPLES);
 }
 
 // A disturbance that is too large at one sample, a number that is no band, and blocks of no samples.
 fn refused(message: &[u8]) {
-    let mut large = [100i16; LONGEST];
+    let mut large = [DISTURBANCE; LONGEST];
     large[0] = 101;
     let nothing = [0i16; LONGEST];
     run(1, message, b"one number 101", &large, 320);

@@ -1,5 +1,6 @@
 pub mod Tests
 pub mod Lists
+pub mod All
 pub mod Ring
 pub mod Size
 pub mod Sums

@@ -12,9 +12,24 @@ pub fn block(receiver: &mut Receiver, samples: &[i16], events: &mut [u16]) -> An
         ≡ blockOf (now (receiver .entry)) (now (samples .entry)) (now (events .entry)) ⌝ }
 {
     let r = *receiver;
-    let reading = r.block(samples, events);
+    let reading = called(r, samples, events);
     *receiver = reading.receiver;
     reading.answer
+}
+
+// The call on the state that was copied out. It has no reference to a struct, so its proof is found as any other is, and a wrong call is
+// refused for what it gives.
+fn called(receiver: Receiver, samples: &[i16], events: &mut [u16]) -> Reading
+    ensures { λ r. ⌜ outcome (r .answer) (r .receiver) (now (events .exit))
+        ≡ blockOf receiver (now (samples .entry)) (now (events .entry)) ⌝ }
+{
+    let reading = receiver.block(samples, events);
+    let next = reading.receiver;
+    let told = reading.answer;
+    Reading {
+        receiver: next,
+        answer: told,
+    }
 }
 
 // The same entry for callers that hold the state by value: it lends the state that it is handed.

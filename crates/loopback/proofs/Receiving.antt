@@ -15,7 +15,7 @@ use Rattle.calls.proofs.Filling.{Filling, filling-start, filling-more, filling-
 use Rattle.tones.specs.Samples.{areSamples}
 use Rattle.tones.proofs.Samples.{samples-take, samples-drop}
 use Rattle.receiver.specs.declared.Receiver.{Receiver}
-use Rattle.receiver.specs.Step.{stepOf, eventsAt, stateAfter, eventsAfter}
+use Rattle.receiver.specs.Step.{afterSample, eventsAt, stateAfter, eventsAfter}
 use Rattle.receiver.specs.Calls.{inRange}
 use Rattle.receiver.proofs.Ranges.{state-kept}
 
@@ -42,7 +42,7 @@ module _ (s : Receiver) (xs : List ℤ) (lent : List ℕ) where
       parts =
           let e : at + (end - at) ≡ end = omega arith in
           ap (eventsAfter r) (sym (take-append-drop (end - at) (drop at xs)))
-          ∙ run-laws stepOf eventsAt .gives-append r block (drop (end - at) (drop at xs))
+          ∙ run-laws afterSample eventsAt .gives-append r block (drop (end - at) (drop at xs))
           ∙ ap (λ (ys : List ℤ). eventsAfter r block ++ eventsAfter (stateAfter r block) ys)
           (drop-drop (end - at) at xs ∙ ap (λ (i : ℕ). drop i xs) e)
 
@@ -67,7 +67,7 @@ module _ (s : Receiver) (xs : List ℤ) (lent : List ℕ) where
 
     module _ (h : length xs ≤ at) where
       nothing : eventsAfter r (drop at xs) ≡ []
-      nothing = ap (eventsAfter r) (drop-of-length-le xs {i = at} h) ∙ run-laws stepOf eventsAt .gives-none r
+      nothing = ap (eventsAfter r) (drop-of-length-le xs {i = at} h) ∙ run-laws afterSample eventsAt .gives-none r
 
       pub reading-count : count ≡ length (eventsAfter s xs)
       reading-count = omega (arith, d .counted, ap length nothing)

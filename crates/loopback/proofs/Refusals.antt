@@ -1,80 +1,89 @@
 -- What is known when nothing is refused, and the two outcomes.
 -- Assumes nothing.
-use mathlib.Core.Path.{_≡_}
-use mathlib.Core.Bool.{true, not, _&&_}
-use mathlib.Core.List.{List, _++_}
+use mathlib.Core.Path.{_≡_, sym}
+use mathlib.Core.Bool.{true, _&&_}
+use mathlib.Core.List.{List}
 use mathlib.Mathlib.Data.Bool.Basic.{and-elim-left, and-elim-right}
 use Prim.Native.Nat.{ℕ, _≤_}
-use native.Mathlib.Omega.{arith}
-use borrow.Author.Tests.{leb-true, eq-eqb, ne-eqb, not-false}
+use borrow.Author.Tests.{leb-true, not-false}
 use lib.Dec.{leb}
 use lib.IntN.{ℤ}
-use lib.ListN.{length, drop}
-use Rattle.integers.proofs.Tests.{cond-split}
-use Rattle.calls.specs.Outcome.{refused, accepted}
+use lib.ListN.{length}
+use Rattle.integers.specs.All.{none, more}
+use Rattle.calls.specs.Refusals.{Test, firstOf}
+use Rattle.calls.specs.Outcome.{refused}
+use Rattle.calls.proofs.Refusals.{NoneHolds, none-holds, not-refused, is-refused}
 use Rattle.tones.specs.Bands.{isBand}
+use Rattle.tones.specs.Samples.{mostSamples}
+use Rattle.transmitter.specs.Calls.{mostCharacters}
 use Rattle.message.specs.Message.{samplesFor}
-use Rattle.loopback.specs.Loopback.{recordedOf, isSize, areDisturbances, isRoom, refusalOf, loopbackOf}
+use Rattle.loopback.specs.Loopback.{Lists, isSize, areDisturbances, isRoom, loopbackTests, readBack, loopbackOf}
 
-pub size-few : (characters size : ℕ) → isSize characters size ≡ true → characters ≤ 100
-size-few characters size s =
-    leb-true characters 100
-    (and-elim-left (leb characters 100) (leb 1 size) (and-elim-left (leb characters 100 && leb 1 size) (leb size 16384) s))
+-- ---- what holds when nothing is refused
 
-module _ (band characters : ℕ) (disturbance : List ℤ) (size samples events : ℕ) where
-  -- what holds when nothing is refused
-  pub record Allowed : Type 0 where
-    pub band-known : isBand band ≡ true
-    pub few : characters ≤ 100
-    pub size-low : 1 ≤ size
-    pub size-high : size ≤ 16384
-    pub small : areDisturbances disturbance ≡ true
-    pub numbers : samplesFor characters ≤ length disturbance
-    pub places : samplesFor characters ≤ samples
-    pub room : characters ≤ events
+module _ (characters size : ℕ) where
+  pub record Sized : Type 0 where
+    pub few : characters ≤ mostCharacters
+    pub low : 1 ≤ size
+    pub high : size ≤ mostSamples
 
-  allowed-by : isBand band ≡ true → isSize characters size ≡ true → areDisturbances disturbance ≡ true
-      → isRoom characters (length disturbance) samples events ≡ true → Allowed
-  allowed-by b s d r =
-      let n : ℕ = samplesFor characters in
-      let s2 = and-elim-left (leb characters 100 && leb 1 size) (leb size 16384) s in
-      let r2 = and-elim-left (leb n (length disturbance) && leb n samples) (leb characters events) r in
+  pub sized : isSize characters size ≡ true → Sized
+  sized h =
+      let both = and-elim-left (leb characters mostCharacters && leb 1 size) (leb size mostSamples) h in
       record {
-        band-known = b;
-        few = size-few characters size s;
-        size-low = leb-true 1 size (and-elim-right (leb characters 100) (leb 1 size) s2);
-        size-high = leb-true size 16384 (and-elim-right (leb characters 100 && leb 1 size) (leb size 16384) s);
-        small = d;
-        numbers = leb-true n (length disturbance) (and-elim-left (leb n (length disturbance)) (leb n samples) r2);
-        places = leb-true n samples (and-elim-right (leb n (length disturbance)) (leb n samples) r2);
-        room = leb-true characters events (and-elim-right (leb n (length disturbance) && leb n samples) (leb characters events) r);
+        few = leb-true characters mostCharacters (and-elim-left (leb characters mostCharacters) (leb 1 size) both);
+        low = leb-true 1 size (and-elim-right (leb characters mostCharacters) (leb 1 size) both);
+        high = leb-true size mostSamples (and-elim-right (leb characters mostCharacters && leb 1 size) (leb size mostSamples) h);
       }
 
-  pub allowed : refusalOf band characters disturbance size samples events ≡ 0 → Allowed
-  unfolding refusalOf
-  allowed =
-      let P : ℕ → Type 0 = λ k. k ≡ 0 → Allowed in
-      cond-split P (not (isBand band)) 1 _ (λ t e. absurd (omega arith))
-      (λ b.
-      cond-split P (not (isSize characters size)) 3 _ (λ t e. absurd (omega arith))
-      (λ s.
-      cond-split P (not (areDisturbances disturbance)) 5 _ (λ t e. absurd (omega arith))
-      (λ d.
-      cond-split P (not (isRoom characters (length disturbance) samples events)) 4 0 (λ t e. absurd (omega arith))
-      (λ r e. allowed-by (not-false _ b) (not-false _ s) (not-false _ d) (not-false _ r)))))
+module _ (characters added samples events : ℕ) where
+  pub record Roomy : Type 0 where
+    pub numbers : samplesFor characters ≤ added
+    pub places : samplesFor characters ≤ samples
+    pub free : characters ≤ events
+
+  roomy : isRoom characters added samples events ≡ true → Roomy
+  roomy h =
+      let n : ℕ = samplesFor characters in
+      let both = and-elim-left (leb n added && leb n samples) (leb characters events) h in
+      record {
+        numbers = leb-true n added (and-elim-left (leb n added) (leb n samples) both);
+        places = leb-true n samples (and-elim-right (leb n added) (leb n samples) both);
+        free = leb-true characters events (and-elim-right (leb n added && leb n samples) (leb characters events) h);
+      }
+
+module _ (band characters : ℕ) (added : List ℤ) (size samples events : ℕ) where
+  pub record Allowed : Type 0 where
+    pub known : isBand band ≡ true
+    pub sizes : Sized characters size
+    pub small : areDisturbances added ≡ true
+    pub room : Roomy characters (length added) samples events
+
+  abbrev tests : List Test
+  tests = loopbackTests band characters added size samples events
+
+  pub allowed : firstOf tests ≡ 0 → Allowed
+  allowed e = all (none-holds tests (tt, (tt, (tt, (tt, tt)))) e)
+    where
+      all : NoneHolds tests → Allowed
+      all (more b (more s (more d (more r none)))) =
+          record {
+            known = not-false (isBand band) b;
+            sizes = sized characters size (not-false (isSize characters size) s);
+            small = not-false (areDisturbances added) d;
+            room = roomy characters (length added) samples events (not-false (isRoom characters (length added) samples events) r);
+          }
 
 -- ---- the two outcomes
 
-module _ (band : ℕ) (characters : List ℕ) (disturbance : List ℤ) (size : ℕ) (samples : List ℤ) (events : List ℕ) where
-  abbrev answered : ℕ
-  answered = refusalOf band (length characters) disturbance size (length samples) (length events)
+module _ (band : ℕ) (characters : List ℕ) (added : List ℤ) (size : ℕ) (lent : Lists) where
+  abbrev asked : List Test
+  asked = loopbackTests band (length characters) added size (length (lent .samples)) (length (lent .events))
 
-  pub loopback-refused : (answered ≡ 0 → ⊥) → loopbackOf band characters disturbance size samples events ≡ refused answered samples events
+  pub loopback-refused : (n : ℕ) → n ≡ firstOf asked → (n ≡ 0 → ⊥) → refused n tt lent ≡ loopbackOf band characters added size lent
   unfolding loopbackOf
-  loopback-refused h = rw (ne-eqb answered 0 h)
+  loopback-refused = is-refused asked tt lent (readBack band characters added lent)
 
-  pub loopback-accepted : answered ≡ 0
-      → loopbackOf band characters disturbance size samples events
-      ≡ accepted (recordedOf band characters disturbance ++ drop (length (recordedOf band characters disturbance)) samples) characters events
+  pub loopback-accepted : firstOf asked ≡ 0 → readBack band characters added lent ≡ loopbackOf band characters added size lent
   unfolding loopbackOf
-  loopback-accepted h = rw (eq-eqb answered 0 h)
+  loopback-accepted e = sym (not-refused asked tt lent (readBack band characters added lent) e)

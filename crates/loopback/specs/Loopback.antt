@@ -1,47 +1,66 @@
 -- A message that is sent, disturbed and read back in one call. The call is ours; it sends as document 01's "Transmitter" has it, alters
 -- the samples as its "Whole recordings" allows, and reads in blocks of one size.
 -- Assumes nothing.
-use mathlib.Core.Bool.{Bool, cond, not, _&&_}
-use mathlib.Core.List.{List, _++_}
+use mathlib.Core.Bool.{Bool, not, _&&_}
+use mathlib.Core.List.{List, [], _∷_}
 use Prim.Native.Nat.{ℕ}
-use lib.Dec.{leb, eqb}
-use lib.IntN.{ℤ, pos, negsuc}
-use lib.ListN.{length, drop}
+use lib.Dec.{leb}
+use lib.IntN.{ℤ, pos, negℤ}
+use lib.ListN.{length}
 use Rattle.integers.specs.Near.{altered}
-use Rattle.calls.specs.Outcome.{Outcome, refused, accepted}
+use Rattle.calls.specs.Refusals.{Test, test}
+use Rattle.calls.specs.Outcome.{Outcome, unlessRefused, over}
 use Rattle.tones.specs.Bands.{isBand}
-use Rattle.tones.specs.Samples.{areBetween}
+use Rattle.tones.specs.Samples.{mostSamples, areBetween}
+use Rattle.transmitter.specs.Calls.{mostCharacters}
 use Rattle.message.specs.Message.{messageOf, samplesFor}
+use Rattle.margin.specs.Windows.{disturbance}
+
+-- the two lent lists
+pub record Lists : Type 0 where
+  pub samples : List ℤ
+  pub events : List ℕ
+
+abbrev pub lists : List ℤ → List ℕ → Lists
+lists samples events = record { samples = samples; events = events }
 
 -- the samples of the message, each with the number at its place added
-abbrev pub recordedOf : (band : ℕ) (characters : List ℕ) (disturbance : List ℤ) → List ℤ
-recordedOf band characters disturbance = altered (messageOf band characters) disturbance
+abbrev pub recordedOf : (band : ℕ) (characters : List ℕ) (added : List ℤ) → List ℤ
+recordedOf band characters added = altered (messageOf band characters) added
 
--- at most 100 characters, and blocks of 1 to 16,384 samples
+-- as many characters as one call takes, and blocks of 1 to 16,384 samples
 abbrev pub isSize : (characters size : ℕ) → Bool
-isSize characters size = leb characters 100 && leb 1 size && leb size 16384
+isSize characters size = leb characters mostCharacters && leb 1 size && leb size mostSamples
 
--- each number is from -100 to 100
+-- no number is larger than a disturbance may be, either way
 abbrev pub areDisturbances : List ℤ → Bool
-areDisturbances = areBetween (negsuc 99) (pos 100)
+areDisturbances = areBetween (negℤ (pos disturbance)) (pos disturbance)
 
 -- a number for each sample, and a place for each sample and each event
-abbrev pub isRoom : (characters disturbance samples events : ℕ) → Bool
-isRoom characters disturbance samples events =
-    leb (samplesFor characters) disturbance && leb (samplesFor characters) samples && leb characters events
+abbrev pub isRoom : (characters added samples events : ℕ) → Bool
+isRoom characters added samples events =
+    leb (samplesFor characters) added && leb (samplesFor characters) samples && leb characters events
 
--- the number that is answered, after document 01's table: 1 no band, 3 over 100 characters or no size of a block, 5 some disturbance
--- outside its range, 4 a list too short; the first that holds
-unfoldable pub refusalOf : (band characters : ℕ) (disturbance : List ℤ) (size samples events : ℕ) → ℕ
-refusalOf band characters disturbance size samples events =
-    cond (not (isBand band)) 1
-    (cond (not (isSize characters size)) 3
-    (cond (not (areDisturbances disturbance)) 5
-    (cond (not (isRoom characters (length disturbance) samples events)) 4 0)))
+-- after document 01's table: 1 no band, 3 too many characters or no size of a block, 5 some number outside its range, 4 a list too short
+abbrev pub loopbackTests : (band characters : ℕ) (added : List ℤ) (size samples events : ℕ) → List Test
+loopbackTests band characters added size samples events =
+    test 1 (not (isBand band))
+    ∷ test 3 (not (isSize characters size))
+    ∷ test 5 (not (areDisturbances added))
+    ∷ test 4 (not (isRoom characters (length added) samples events))
+    ∷ []
 
--- the events are the characters, and the samples are left as they were read; the outcome's state is the samples' list
-unfoldable pub loopbackOf : (band : ℕ) (characters : List ℕ) (disturbance : List ℤ) (size : ℕ) (samples : List ℤ) (events : List ℕ) → Outcome (List ℤ) ℕ
-loopbackOf band characters disturbance size samples events =
-    let n : ℕ = refusalOf band (length characters) disturbance size (length samples) (length events) in
-    let recorded : List ℤ = recordedOf band characters disturbance in
-    cond (eqb n 0) (accepted (recorded ++ drop (length recorded) samples) characters events) (refused n samples events)
+-- accepted: the events are the characters, and the samples are left as they were read
+abbrev pub readBack : (band : ℕ) (characters : List ℕ) (added : List ℤ) → Lists → Outcome Unit Lists
+readBack band characters added lent =
+    record {
+      number = 0;
+      count = length characters;
+      state = tt;
+      lent = lists (over (recordedOf band characters added) (lent .samples)) (over characters (lent .events));
+    }
+
+unfoldable pub loopbackOf : (band : ℕ) (characters : List ℕ) (added : List ℤ) (size : ℕ) → Lists → Outcome Unit Lists
+loopbackOf band characters added size lent =
+    unlessRefused (loopbackTests band (length characters) added size (length (lent .samples)) (length (lent .events))) tt lent
+    (readBack band characters added lent)

@@ -2,13 +2,20 @@
 // of at most 100 bytes, every disturbance of at most 100 at each sample, and every size of the blocks.
 ghost use mathlib.Core.Path.{_≡_};
 ghost use Prim.Native.Nat.{_≤_};
+ghost use Rattle.calls.specs.Refusals.{firstOf};
 ghost use Rattle.calls.specs.Outcome.{outcome};
-ghost use Rattle.loopback.specs.Loopback.{isSize, isRoom, refusalOf, loopbackOf};
+ghost use Rattle.transmitter.specs.Calls.{mostCharacters};
+ghost use Rattle.loopback.specs.Loopback.{lists, isSize, isRoom, loopbackTests, loopbackOf};
 
 mod disturb;
 mod receive;
 
 use calls::Answer;
+use tones::MOST_SAMPLES;
+use transmitter::MOST_CHARACTERS;
+
+// The most that is added to a sample, either way.
+pub const DISTURBANCE: i16 = 100;
 
 // Sends leader, characters and trailer in a band, adds the numbers of `disturbance` sample by sample, and reads the result in
 // blocks of `size` through the receiver's second entry. The samples as they were read and the events go to the caller's buffers.
@@ -20,8 +27,8 @@ pub fn loopback(
     samples: &mut [i16],
     events: &mut [u16],
 ) -> Answer
-    ensures { λ r. ⌜ outcome r (now (samples .exit)) (now (events .exit))
-        ≡ loopbackOf band (now (characters .entry)) (now (disturbance .entry)) size (now (samples .entry)) (now (events .entry)) ⌝ }
+    ensures { λ r. ⌜ outcome r tt (lists (now (samples .exit)) (now (events .exit)))
+        ≡ loopbackOf band (now (characters .entry)) (now (disturbance .entry)) size (lists (now (samples .entry)) (now (events .entry))) ⌝ }
 {
     let number = refusal(
         band,
@@ -50,33 +57,31 @@ fn refusal(
     samples: usize,
     events: usize,
 ) -> u8
-    ensures { λ r. ⌜ r ≡ refusalOf band characters (now (disturbance .entry)) size samples events ⌝ }
+    ensures { λ r. ⌜ r ≡ firstOf (loopbackTests band characters (now (disturbance .entry)) size samples events) ⌝ }
 {
     if !tones::is_band(band) {
-        return 1;
+        1
+    } else if !is_size(characters, size) {
+        3
+    } else if !tones::are_between(disturbance, -DISTURBANCE, DISTURBANCE) {
+        5
+    } else if !is_room(characters, disturbance.len(), samples, events) {
+        4
+    } else {
+        0
     }
-    if !is_size(characters, size) {
-        return 3;
-    }
-    if !tones::are_between(disturbance, -100, 100) {
-        return 5;
-    }
-    if !is_room(characters, disturbance.len(), samples, events) {
-        return 4;
-    }
-    0
 }
 
-// At most 100 characters, and blocks of 1 to 16,384 samples.
+// As many characters as one call takes, and blocks of 1 to 16,384 samples.
 fn is_size(characters: usize, size: usize) -> bool
     ensures { λ r. ⌜ r ≡ isSize characters size ⌝ }
 {
-    characters <= 100 && 1 <= size && size <= 16384
+    characters <= MOST_CHARACTERS && 1 <= size && size <= MOST_SAMPLES
 }
 
 // A number for each sample, and a place for each sample and each event.
 fn is_room(characters: usize, disturbance: usize, samples: usize, events: usize) -> bool
-    requires { ⌜ characters ≤ 100 ⌝ }
+    requires { ⌜ characters ≤ mostCharacters ⌝ }
     ensures { λ r. ⌜ r ≡ isRoom characters disturbance samples events ⌝ }
 {
     let n = 192 + 320 * characters;

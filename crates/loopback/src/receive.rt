@@ -5,7 +5,7 @@ ghost use Prim.Native.Nat.{_+_, _≤_, min};
 ghost use lib.ListN.{length};
 ghost use lib.Seq.{sets};
 ghost use Rattle.tones.specs.Bands.{isBand};
-ghost use Rattle.tones.specs.Samples.{areSamples};
+ghost use Rattle.tones.specs.Samples.{mostSamples, areSamples};
 ghost use Rattle.receiver.specs.Step.{stateAfter, eventsAfter};
 ghost use Rattle.receiver.specs.Calls.{fresh, inRange};
 use calls::Answer;
@@ -16,7 +16,7 @@ use receiver::Receiver;
 pub(crate) fn receive(band: u8, samples: &[i16], size: usize, events: &mut [u16]) -> usize
     requires { ⌜ isBand band ≡ true ⌝ }
     requires { ⌜ areSamples (now samples) ≡ true ⌝ }
-    requires { ⌜ (1 ≤ size) × (size ≤ 16384) ⌝ }
+    requires { ⌜ (1 ≤ size) × (size ≤ mostSamples) ⌝ }
     requires { ⌜ length (eventsAfter (fresh band) (now samples)) ≤ length (now events) ⌝ }
     ensures count { λ r. ⌜ r ≡ length (eventsAfter (fresh band) (now (samples .entry))) ⌝ }
     ensures lent { λ r. ⌜ now (events .exit) ≡ sets (now (events .entry)) 0 (eventsAfter (fresh band) (now (samples .entry))) ⌝ }
@@ -47,7 +47,7 @@ fn block_end(at: usize, size: usize, len: usize) -> usize
 // Reads a block, and puts its events behind those that are there. The answer has the new count.
 fn read(receiver: Receiver, block: &[i16], events: &mut [u16], count: usize) -> Reading
     requires { ⌜ inRange receiver ≡ true ⌝ }
-    requires { ⌜ (length (now block) ≤ 16384) × (areSamples (now block) ≡ true) ⌝ }
+    requires { ⌜ (length (now block) ≤ mostSamples) × (areSamples (now block) ≡ true) ⌝ }
     requires { ⌜ count + length (eventsAfter receiver (now block)) ≤ length (now events) ⌝ }
     ensures next { λ r. ⌜ r ≡ record {
       receiver = stateAfter receiver (now (block .entry));
@@ -55,13 +55,12 @@ fn read(receiver: Receiver, block: &[i16], events: &mut [u16], count: usize) -> 
     } ⌝ }
     ensures lent { λ r. ⌜ now (events .exit) ≡ sets (now (events .entry)) count (eventsAfter receiver (now (block .entry))) ⌝ }
 {
-    // 16,384 / 48 + 1 places are enough for every block.
-    let mut part = [0u16; 342];
+    let mut part = [0u16; receiver::MOST_EVENTS];
     let reading = lent::block_by_value(receiver, block, &mut part);
     let answer = reading.answer;
     let n = answer.count;
     let next = reading.receiver;
-    put(events, count, &part[..n]);
+    put_events(events, count, &part[..n]);
     Reading {
         receiver: next,
         answer: Answer {
@@ -72,7 +71,7 @@ fn read(receiver: Receiver, block: &[i16], events: &mut [u16], count: usize) -> 
 }
 
 // Puts events to a list from the place `at` on.
-fn put(events: &mut [u16], at: usize, new: &[u16])
+fn put_events(events: &mut [u16], at: usize, new: &[u16])
     requires { ⌜ at + length (now new) ≤ length (now events) ⌝ }
     ensures { λ r. ⌜ now (events .exit) ≡ sets (now (events .entry)) at (now (new .entry)) ⌝ }
 {

@@ -1,5 +1,5 @@
--- `Margins` for every band, with each sample altered by at most 100, by the test computed for each pair of tones. The two pairs of
--- V.21, which are no bands, pass it too. A pair's stride is 32 times the largest number that divides both steps and 30, so that few
+-- `Margins` for every band, with each sample altered by at most `disturbance`, by the test computed for each pair of tones. The two pairs
+-- of V.21, which are no bands, pass it too. A pair's stride is 32 times the largest number that divides both steps and 30, so that few
 -- phases are tested; its count is 960 over the stride.
 -- Assumes nothing.
 use mathlib.Core.Path.{_≡_, refl}

@@ -20,7 +20,7 @@ pub record Bounds : Type 0 where
   pub least : ℕ
   pub most : ℕ
 
-pub record Within (b : Bounds) (n : ℕ) : Type 0 where
+pub record Enclosed (b : Bounds) (n : ℕ) : Type 0 where
   pub low : b .least ≤ n
   pub high : n ≤ b .most
 
@@ -28,10 +28,10 @@ pub record Within (b : Bounds) (n : ℕ) : Type 0 where
 unfoldable pub squares : (i q m n : ℕ) → Bounds
 squares i q m n = record { least = (i - m) * (i - m) + (q - n) * (q - n); most = (i + m) * (i + m) + (q + n) * (q + n) }
 
-within-squares : (i q m n x y : ℕ) → (i ≤ x + m) × (x ≤ i + m) → (q ≤ y + n) × (y ≤ q + n)
-    → Within (squares i q m n) (x * x + y * y)
+squares-enclose : (i q m n x y : ℕ) → (i ≤ x + m) × (x ≤ i + m) → (q ≤ y + n) × (y ≤ q + n)
+    → Enclosed (squares i q m n) (x * x + y * y)
 unfolding squares
-within-squares i q m n x y h l =
+squares-enclose i q m n x y h l =
     let a : i - m ≤ x = omega arith in
     let b : q - n ≤ y = omega arith in
     record {
@@ -63,14 +63,14 @@ unfoldable pub bounds : ToneWeights → (sent : List ℤ) → Bounds
 unfolding dot squares
 bounds w sent = squares (natAbs (dot sent (w .cosines))) (natAbs (dot sent (w .sines))) (w .inPhaseOff) (w .quadratureOff)
 
-pub within-bounds : (noise step : ℕ) {sent window : List ℤ} → Near noise sent window
-    → Within (bounds (toneWeights noise step) sent) (energyℕ window step)
+pub energy-enclosed : (noise step : ℕ) {sent window : List ℤ} → Near noise sent window
+    → Enclosed (bounds (toneWeights noise step) sent) (energyℕ window step)
 unfolding bounds toneWeights energyℕ
-within-bounds noise step {sent} {window} near =
+energy-enclosed noise step {sent} {window} near =
     let cosines : List ℤ = wave 32 step 480 in
     let sines : List ℤ = wave 32 step 0 in
     rw (in-phase-dot window step, quadrature-dot window step)
-    (within-squares (natAbs (dot sent cosines)) (natAbs (dot sent sines)) (noise * size cosines) (noise * size sines)
+    (squares-enclose (natAbs (dot sent cosines)) (natAbs (dot sent sines)) (noise * size cosines) (noise * size sines)
     (natAbs (dot window cosines)) (natAbs (dot window sines))
     (natAbs-near (dot sent cosines) (dot window cosines) (near-dot near cosines))
     (natAbs-near (dot sent sines) (dot window sines) (near-dot near sines)))

@@ -19,12 +19,12 @@ use Rattle.tones.specs.Bands.{stepOf}
 use Rattle.receiver.specs.Energy.{energyℕ, level, decisionOf}
 use Rattle.receiver.proofs.Energies.{decision-ℕ}
 use Rattle.margin.specs.Windows.{across, markThenSilence, isSpace}
-use Rattle.margin.proofs.Energies.{Bounds, Within, bounds, within-bounds}
+use Rattle.margin.proofs.Energies.{Bounds, Enclosed, bounds, energy-enclosed}
 use Rattle.margin.proofs.Test.{carrierSure, silenceSure, winsSure, readTests, readSure, Weights, weightsOf, windowSure, acrossSure, silenceBehindSure, pairSure, bitSure, phaseSure}
 
 -- ---- two energies within their bounds
 
-module _ {s m : Bounds} {space mark : ℕ} (h : Within s space) (l : Within m mark) where
+module _ {s m : Bounds} {space mark : ℕ} (h : Enclosed s space) (l : Enclosed m mark) where
   carrier-level : carrierSure s m ≡ true → leb level (max space mark) ≡ true
   unfolding carrierSure
   carrier-level e = le-leb level (max space mark) (omega (arith, leb-true level (max (s .least) (m .least)) e))
@@ -45,13 +45,13 @@ module _ (noise : ℕ) (t : Tones) where
   w = weightsOf noise t
 
   module _ {sent window : List ℤ} (near : Near noise sent window) where
-    in-space : Within (bounds (w .space) sent) (energyℕ window (t .space))
+    in-space : Enclosed (bounds (w .space) sent) (energyℕ window (t .space))
     unfolding weightsOf
-    in-space = within-bounds noise (t .space) near
+    in-space = energy-enclosed noise (t .space) near
 
-    in-mark : Within (bounds (w .mark) sent) (energyℕ window (t .mark))
+    in-mark : Enclosed (bounds (w .mark) sent) (energyℕ window (t .mark))
     unfolding weightsOf
-    in-mark = within-bounds noise (t .mark) near
+    in-mark = energy-enclosed noise (t .mark) near
 
     pub silence-decided : windowSure w silenceSure sent ≡ true → decisionOf t window .good ≡ false
     unfolding windowSure

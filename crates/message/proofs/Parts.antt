@@ -46,8 +46,8 @@ module _ (s : Transmitter) (bits : List ℕ) (old : List ℤ) (at : ℕ) (r : Se
   pub sent-part : at + 32 * length bits ≤ length old → outcome (r .answer) (r .transmitter) now ≡ sent s bits (part old at)
       → (r .transmitter ≡ afterBits s bits) × (putMid at (length old - at) old now ≡ sets old at (samplesOf s bits))
   sent-part h e = (
-    ap (λ (o : Outcome Transmitter ℤ). o .state) e,
-    ap (λ (o : Outcome Transmitter ℤ). putMid at (length old - at) old (o .lent)) e
+    ap (λ (o : Outcome Transmitter (List ℤ)). o .state) e,
+    ap (λ (o : Outcome Transmitter (List ℤ)). putMid at (length old - at) old (o .lent)) e
         ∙ filled old at (samplesOf s bits) (omega (arith, length-bits (tonesOf (s .band)) (s .phase) bits)),
   )
 

@@ -4,10 +4,11 @@ ghost use mathlib.Core.Bool.{true};
 ghost use Prim.Native.Nat.{_+_, _*_, _≤_};
 ghost use lib.ListN.{length};
 ghost use lib.Seq.{sets};
+ghost use Rattle.calls.specs.Refusals.{firstOf};
 ghost use Rattle.calls.specs.Outcome.{outcome};
 ghost use Rattle.transmitter.specs.Samples.{idleBits, charactersBits};
-ghost use Rattle.transmitter.specs.Calls.{inRange, samplesOf, afterBits};
-ghost use Rattle.message.specs.Message.{messageNumber, sendOf};
+ghost use Rattle.transmitter.specs.Calls.{inRange, samplesOf, afterBits, mostCharacters};
+ghost use Rattle.message.specs.Message.{messageTests, sendOf};
 use calls::Answer;
 use transmitter::Transmitter;
 
@@ -32,18 +33,17 @@ pub fn send(band: u8, bytes: &[u8], out: &mut [i16]) -> Answer
 
 // The number of the first reason to refuse, or 0.
 fn refusal(band: u8, characters: usize, places: usize) -> u8
-    ensures { λ r. ⌜ r ≡ messageNumber band characters places ⌝ }
+    ensures { λ r. ⌜ r ≡ firstOf (messageTests band characters places) ⌝ }
 {
     if !tones::is_band(band) {
-        return 1;
+        1
+    } else if transmitter::MOST_CHARACTERS < characters {
+        3
+    } else if places < 192 + 320 * characters {
+        4
+    } else {
+        0
     }
-    if 100 < characters {
-        return 3;
-    }
-    if places < 192 + 320 * characters {
-        return 4;
-    }
-    0
 }
 
 // Sends an idle to the places from `at` on, and gives the state after it.
@@ -60,7 +60,7 @@ fn idle(transmitter: Transmitter, out: &mut [i16], at: usize) -> Transmitter
 // Sends characters likewise.
 fn text(transmitter: Transmitter, bytes: &[u8], out: &mut [i16], at: usize) -> Transmitter
     requires { ⌜ inRange transmitter ≡ true ⌝ }
-    requires { ⌜ length (now bytes) ≤ 100 ⌝ }
+    requires { ⌜ length (now bytes) ≤ mostCharacters ⌝ }
     requires { ⌜ at + 320 * length (now bytes) ≤ length (now out) ⌝ }
     ensures next { λ r. ⌜ r ≡ afterBits transmitter (charactersBits (now (bytes .entry))) ⌝ }
     ensures lent { λ r. ⌜ now (out .exit) ≡ sets (now (out .entry)) at (samplesOf transmitter (charactersBits (now (bytes .entry)))) ⌝ }

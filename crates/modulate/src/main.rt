@@ -4,10 +4,9 @@ use libc::STDIN_FILENO;
 use libc::STDOUT_FILENO;
 
 fn main() {
-    // A digit, 100 characters and one byte more, so that a message that is too long is refused.
-    let mut input = [0u8; 102];
+    let mut input = [0u8; modulator::MOST_INPUT];
     let n = io::read_full(STDIN_FILENO, &mut input);
-    let mut out = [0u8; 65536];
+    let mut out = [0u8; sheet::MOST_BYTES];
     let len = modulator::modulate(&input[..n], &mut out);
     // A program has no exit status to tell it by.
     if !io::write_all(STDOUT_FILENO, &out[..len]) {

@@ -1,79 +1,82 @@
 -- The cases of what `modulate` prints, each under the tests that lead to it, and what is known when a message is accepted.
 -- Assumes nothing.
-use mathlib.Core.Path.{_≡_, sym, ap, _∙_}
+use mathlib.Core.Path.{_≡_, refl, sym, ap, _∙_}
 use mathlib.Core.Bool.{true, false}
 use mathlib.Core.List.{List, _∷_}
-use Prim.Native.Nat.{ℕ, _-_, _<_, _≤_}
+use Prim.Native.Nat.{ℕ, zero, suc, _-_, _<_, _≤_}
 use native.Mathlib.Omega.{arith}
-use borrow.Author.Tests.{eqb-true, eqb-false, ne-eqb}
-use lib.Dec.{eqb}
+use borrow.Author.Tests.{ne-eqb}
 use lib.ListN.{length, getD, take, drop, length-drop, drop-of-length-le}
 use lib.Seq.{take-all, drop-cons}
-use Rattle.integers.proofs.Tests.{cond-split}
-use Rattle.calls.specs.Outcome.{Outcome, refused}
+use Rattle.calls.specs.Refusals.{Test, firstOf}
+use Rattle.calls.specs.Outcome.{Outcome, refused, accepted}
+use Rattle.calls.proofs.Refusals.{none-holds, first-behind, first-before, is-refused}
 use Rattle.calls.proofs.Answers.{Answered, answered}
-use Rattle.message.specs.Message.{messageOf, messageNumber}
+use Rattle.transmitter.specs.Calls.{mostCharacters}
+use Rattle.message.specs.Message.{messageOf, samplesFor, messageTests}
 use Rattle.message.proofs.Calls.{sendable}
 use Rattle.digits.specs.Numbers.{isDigit}
 use Rattle.sheet.specs.Text.{sheetOf}
-use Rattle.sheet.specs.Calls.{writeNumber, writeOf}
+use Rattle.sheet.specs.Calls.{mostBytes, writeTests, writeOf}
 use Rattle.sheet.proofs.Calls.{Writable, writable}
 use Rattle.printing.specs.Printing.{refusalLines}
-use Rattle.modulator.specs.Modulate.{sendNumber, sheetCall, sendingOf, modulated}
+use Rattle.modulator.specs.Modulate.{sendTests, sheetCall, sendingOf, modulated}
 
--- ---- the number of a message and its sheet
+-- ---- the tables of a message and of its sheet
 
 module _ (band : ℕ) (bytes : List ℕ) where
-  abbrev number : ℕ
-  number = messageNumber band (length bytes) 32192
+  abbrev sending : List Test
+  sending = messageTests band (length bytes) (samplesFor mostCharacters)
 
-  number-refused : (number ≡ 0 → ⊥) → number ≡ sendNumber band bytes
-  unfolding sendNumber
-  number-refused h = rw (ne-eqb number 0 h)
+  abbrev writing : List Test
+  writing = writeTests band (messageOf band bytes) mostBytes
 
-  number-sheet : number ≡ 0 → writeNumber band (messageOf band bytes) 65536 ≡ sendNumber band bytes
-  unfolding sendNumber
-  number-sheet e = rw e
+  -- if the message is not refused, its sheet is
+  sheet-first : firstOf sending ≡ 0 → firstOf (sendTests band bytes) ≡ firstOf writing
+  sheet-first e = first-behind sending writing (none-holds sending _ e)
 
   -- the call by which they are made, and what its answer tells
   module _ (lent : List ℕ) where
-    pub sheet-refused : (n : ℕ) → n ≡ number → (n ≡ 0 → ⊥) → refused n tt lent ≡ sheetCall band bytes lent
-    unfolding sheetCall
-    sheet-refused n e h = rw (← number-refused (λ z. h (e ∙ z)), ← e, ne-eqb n 0 h)
+    abbrev sheet : Outcome Unit (List ℕ)
+    sheet = accepted tt (sheetOf band (messageOf band bytes)) lent
 
-    pub sheet-written : number ≡ 0 → length lent ≡ 65536 → writeOf band (messageOf band bytes) lent ≡ sheetCall band bytes lent
+    pub sheet-refused : (n : ℕ) → n ≡ firstOf sending → (n ≡ 0 → ⊥) → refused n tt lent ≡ sheetCall band bytes lent
+    unfolding sheetCall
+    sheet-refused n e h = is-refused (sendTests band bytes) tt lent sheet n (e ∙ sym (first-before sending writing (λ z. h (e ∙ z)))) h
+
+    pub sheet-written : firstOf sending ≡ 0 → length lent ≡ mostBytes → writeOf band (messageOf band bytes) lent ≡ sheetCall band bytes lent
     unfolding sheetCall writeOf
-    sheet-written e l = rw (l, number-sheet e)
+    sheet-written e l = rw (l, sheet-first e)
 
-    pub sheet-answer : (o : Outcome Unit ℕ) → o ≡ sheetCall band bytes lent
-        → Answered tt (sheetOf band (messageOf band bytes)) lent (sendNumber band bytes) o
+    pub sheet-answer : (o : Outcome Unit (List ℕ)) → o ≡ sheetCall band bytes lent
+        → Answered tt (sheetOf band (messageOf band bytes)) lent (firstOf (sendTests band bytes)) o
     unfolding sheetCall
-    sheet-answer o e = answered tt (sheetOf band (messageOf band bytes)) lent (sendNumber band bytes) tt o e
+    sheet-answer = answered tt (sheetOf band (messageOf band bytes)) lent (sendTests band bytes) tt
 
   -- what holds when there is none
   pub record Printable : Type 0 where
-    pub few : length bytes ≤ 100
-    pub written : Writable band (messageOf band bytes) 65536
+    pub few : length bytes ≤ mostCharacters
+    pub written : Writable band (messageOf band bytes) mostBytes
 
-  pub printable : sendNumber band bytes ≡ 0 → Printable
-  unfolding sendNumber
-  printable =
-      cond-split (λ (k : ℕ). k ≡ 0 → Printable) (eqb number 0) (writeNumber band (messageOf band bytes) 65536) number
-      (λ z e.
-      record {
-        few = sendable band (length bytes) 32192 (eqb-true number 0 z) .few;
-        written = writable band (messageOf band bytes) 65536 e;
-      })
-      (λ z e. absurd (eqb-false number 0 z e))
+  pub printable : firstOf (sendTests band bytes) ≡ 0 → Printable
+  printable e = go (firstOf sending) refl
+    where
+      go : (n : ℕ) → firstOf sending ≡ n → Printable
+      go zero z =
+          record {
+            few = sendable band (length bytes) (samplesFor mostCharacters) z .few;
+            written = writable band (messageOf band bytes) mostBytes (sym (sheet-first z) ∙ e);
+          }
+      go (suc n) z = absurd (omega (arith, z, first-before sending writing (λ y. omega (arith, y, z)), e))
 
 -- ---- what `modulate` prints
 
 module _ (band : ℕ) (bytes : List ℕ) where
-  pub sending-refused : (n : ℕ) → n ≡ sendNumber band bytes → (n ≡ 0 → ⊥) → refusalLines n ≡ sendingOf band bytes
+  pub sending-refused : (n : ℕ) → n ≡ firstOf (sendTests band bytes) → (n ≡ 0 → ⊥) → refusalLines n ≡ sendingOf band bytes
   unfolding sendingOf
   sending-refused n e h = rw (← e, ne-eqb n 0 h)
 
-  pub sending-accepted : sendNumber band bytes ≡ 0 → sheetOf band (messageOf band bytes) ≡ sendingOf band bytes
+  pub sending-accepted : firstOf (sendTests band bytes) ≡ 0 → sheetOf band (messageOf band bytes) ≡ sendingOf band bytes
   unfolding sendingOf
   sending-accepted e = rw e
 

@@ -7,9 +7,10 @@ use native.Mathlib.Omega.{arith}
 use lib.ListN.{length, take, drop, length-append}
 use lib.Seq.{sets, take-at}
 use Rattle.integers.proofs.Lists.{sets-append, sets-front}
+use Rattle.calls.specs.Outcome.{over}
 use Rattle.digits.specs.Numbers.{decimal}
 use Rattle.digits.proofs.Numbers.{length-decimal}
-use Rattle.printing.specs.Printing.{refusedLine, refusalLines, over, Front}
+use Rattle.printing.specs.Printing.{refusedLine, refusalLines, Front}
 
 -- ---- a refusal
 

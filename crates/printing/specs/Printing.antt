@@ -3,7 +3,7 @@
 use mathlib.Core.Path.{_≡_}
 use mathlib.Core.List.{List, [], _∷_, _++_}
 use Prim.Native.Nat.{ℕ, _≤_}
-use lib.ListN.{length, take, drop}
+use lib.ListN.{length, take}
 use Rattle.digits.specs.Numbers.{decimal}
 
 -- ---- a refusal
@@ -17,10 +17,6 @@ unfoldable pub refusalLines : ℕ → List ℕ
 refusalLines number = refusedLine ++ (decimal number ++ (10 ∷ []))
 
 -- ---- what a caller's buffer holds
-
--- a text over its front
-abbrev pub over : List ℕ → List ℕ → List ℕ
-over text lent = text ++ drop (length text) lent
 
 -- the first `count` places are within the buffer, and are `count` many; it follows from the two equations, and with it a caller can lend
 -- those places without a proof of its own

@@ -9,8 +9,8 @@ pub fn put_refusal(out: &mut [u8], number: u8) -> usize
     ensures count { λ r. ⌜ r ≡ length (refusalLines number) ⌝ }
     ensures lent { λ r. ⌜ now (out .exit) ≡ sets (now (out .entry)) 0 (refusalLines number) ⌝ }
 {
-    text::put(out, 0, b"refused\n");
+    text::put_bytes(out, 0, b"refused\n");
     let len = text::put_decimal(out, 8, number as u16);
-    text::put(out, 8 + len, b"\n");
+    text::put_bytes(out, 8 + len, b"\n");
     9 + len
 }

@@ -12,23 +12,26 @@ use Rattle.integers.specs.Near.{Near}
 use Rattle.integers.proofs.Near.{near-length, near-take, near-drop}
 use Rattle.calls.specs.Runs.{gives}
 use Rattle.control.specs.declared.Decision.{Decision}
-use Rattle.control.specs.Control.{Control}
+use Rattle.control.specs.declared.Control.{Control}
 use Rattle.control.specs.Rules.{controlAfter, reported, reports}
 use Rattle.receiver.specs.Windows.{decisions}
 use Rattle.receiver.proofs.Windows.{decisions-more}
-use Rattle.promise.proofs.Steps.{Moves}
+use Rattle.promise.proofs.Steps.{Invariant, Keeps}
 
 module _ (noise : ℕ) (decide : List ℤ → Decision) where
   -- every disturbed form of the samples gives the events X from the state s on
   abbrev pub Gives : List ℤ → Control → List ℕ → Type 0
   Gives clean s X = (zs : List ℤ) → Near noise clean zs → reports s (decisions decide zs) ≡ X
 
+  -- from every state with P they give what is still to come there
+  abbrev pub GivesFrom : Invariant → List ℤ → Type 0
+  GivesFrom P clean = (s : Control) (X : List ℕ) → P s X → Gives clean s X
+
   -- `clean` are the samples from the first window on; its first N windows keep the invariant I, and the rest gives what is due then
-  module _ (clean : List ℤ) (N : ℕ) (long : N + 31 ≤ length clean) (I : ℕ → Control → List ℕ → Type 0)
-      (step : (k : ℕ) → k < N → (w : List ℤ) → Near noise (take 32 (drop k clean)) w → (s : Control) (X : List ℕ) → I k s X
-      → Moves (I (suc k)) s (decide w) X)
-      (rest : (s : Control) (X : List ℕ) → I N s X → Gives (drop N clean) s X) where
-    from : (n k : ℕ) → k + n ≡ N → (s : Control) (X : List ℕ) → I k s X → Gives (drop k clean) s X
+  module _ (clean : List ℤ) (N : ℕ) (long : N + 31 ≤ length clean) (I : ℕ → Invariant)
+      (step : (k : ℕ) → k < N → (w : List ℤ) → Near noise (take 32 (drop k clean)) w → Keeps (I k) (decide w) (I (suc k)))
+      (rest : GivesFrom (I N) (drop N clean)) where
+    from : (n k : ℕ) → k + n ≡ N → GivesFrom (I k) (drop k clean)
     unfolding gives
     from zero k e s X i zs h = let q : k ≡ N = omega arith in rest s X (rw q at i) zs (rw q at h)
     from (suc n) k e s X i zs h =
@@ -42,5 +45,5 @@ module _ (noise : ℕ) (decide : List ℤ → Decision) where
         (subst (λ (c : List ℤ). Near noise c (drop 1 zs)) next (near-drop 1 h)))
         ∙ sym (m .split)
 
-    pub along : (s : Control) (X : List ℕ) → I 0 s X → Gives clean s X
-    along s X i = from N 0 (omega arith) s X i
+    pub along : GivesFrom (I 0) clean
+    along = from N 0 (omega arith)

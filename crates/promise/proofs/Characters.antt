@@ -3,10 +3,9 @@
 -- with 31 + 32 m to 35 + 32 m. The window with t samples comes with the character's sample t - 1: the event, at slot 9, comes with
 -- its sample 318 to 322, counted from 0.
 -- Assumes nothing.
-use mathlib.Core.Path.{_≡_, refl, sym, ap, _∙_, subst}
-use mathlib.Core.Bool.{true, false≢true}
+use mathlib.Core.Path.{_≡_, refl, sym, ap, ap₂, _∙_, subst}
+use mathlib.Core.Bool.{Bool, true, false, false≢true}
 use mathlib.Core.List.{List, _∷_}
-use mathlib.Core.Logic.{⊎-elim}
 use Prim.Native.Nat.{ℕ, zero, suc, _+_, _*_, _^_, _/_, _%_, _≤_, _<_}
 use native.Mathlib.Decide.{ℕ-discrete}
 use native.Mathlib.Nat.{mod-eq-of-lt}
@@ -19,12 +18,12 @@ use Rattle.transmitter.specs.Samples.{charBits}
 use Rattle.transmitter.proofs.Laws.{bitAt, bit-start, bit-data, bit-stop}
 use Rattle.control.specs.declared.Decision.{Decision}
 use Rattle.control.specs.declared.Stage.the-variants.{Searching, Waiting}
-use Rattle.control.specs.Control.{Control}
+use Rattle.control.specs.declared.Control.{Control}
 use Rattle.control.specs.Rules.{quiet, gathered}
 use Rattle.control.proofs.Rules.{wait-taken, start-found, data-bit}
 use Rattle.margin.specs.Windows.{isSpace}
-use Rattle.promise.proofs.Steps.{at, reads, Moves, moves-on, full, goes, waits, searches, finds, stops, either-bit}
-use Rattle.promise.proofs.Windows.{Read}
+use Rattle.promise.proofs.Steps.{at, Reads, Invariant, Moves, Keeps, moves-on, full, goes, waits, searches, finds, stops}
+use Rattle.promise.proofs.Windows.{ReadAcross}
 
 -- ---- before a character, and in every mark bit that follows a mark bit
 
@@ -34,11 +33,11 @@ pub data BetweenCharacters (Y : List ℕ) (k : ℕ) : Control → List ℕ → T
   none-due : BetweenCharacters Y k (at 32 Searching) Y
   stop-due : (byte wait : ℕ) → 1 ≤ wait → wait + k ≤ 4 → BetweenCharacters Y k (at 32 (Waiting wait 9 byte)) (byte ∷ Y)
 
-pub stays-between : (Y : List ℕ) (k : ℕ) (d : Decision) → d ≡ reads 1 → (s : Control) (X : List ℕ) → BetweenCharacters Y k s X → Moves (BetweenCharacters Y (suc k)) s d X
-stays-between Y k d e s X none-due = searches d e none-due
-stays-between Y k d e s X (stop-due byte zero a b) = absurd (omega arith)
-stays-between Y k d e s X (stop-due byte (suc zero) a b) = stops d e byte none-due
-stays-between Y k d e s X (stop-due byte (suc (suc wait)) a b) = waits d 32 (full d (ap (λ (x : Decision). x .good) e)) wait 9 byte (stop-due byte (suc wait) (omega arith) (omega arith))
+pub stays-between : (Y : List ℕ) (k : ℕ) (d : Decision) → Reads d 1 → Keeps (BetweenCharacters Y k) d (BetweenCharacters Y (suc k))
+stays-between Y k d r s X none-due = searches d r none-due
+stays-between Y k d r s X (stop-due byte zero a b) = absurd (omega arith)
+stays-between Y k d r s X (stop-due byte (suc zero) a b) = stops d r byte none-due
+stays-between Y k d r s X (stop-due byte (suc (suc wait)) a b) = waits d 32 (full d (r .good)) wait 9 byte (stop-due byte (suc wait) (omega arith) (omega arith))
 
 -- ---- the byte gathered
 
@@ -69,84 +68,82 @@ bitBefore c j = getD (1 ∷ charBits c) j 1
 -- the next.
 record DecidedAt (c t : ℕ) (d : Decision) : Type 0 where
   good : d .good ≡ true
-  mark-before : t ≤ 14 → d ≡ reads 1
-  own-bit : (m : ℕ) → 19 + 32 * m ≤ t → t ≤ 46 + 32 * m → d ≡ reads (bitAt c m)
+  mark-before : t ≤ 14 → Reads d 1
+  own-bit : (m : ℕ) → 19 + 32 * m ≤ t → t ≤ 46 + 32 * m → Reads d (bitAt c m)
 
 module _ (c : ℕ) (d : Decision) where
-  decided-before : (j k : ℕ) → Read (bitBefore c j) (bitAt c j) k d → 32 * j + k ≤ 14 → d ≡ reads 1
+  decided-before : (j k : ℕ) → ReadAcross (bitBefore c j) (bitAt c j) k d → 32 * j + k ≤ 14 → Reads d 1
   decided-before zero k r h = r .earlier (omega arith)
   decided-before (suc j) k r h = absurd (omega arith)
 
-  decided-own : (j k m : ℕ) → k < 32 → Read (bitBefore c j) (bitAt c j) k d → 19 + 32 * m ≤ 32 * j + k → 32 * j + k ≤ 46 + 32 * m → d ≡ reads (bitAt c m)
-  decided-own j k m l r h g = go j r h g (ℕ-discrete m j)
-    where
-      go : (j : ℕ) → Read (bitBefore c j) (bitAt c j) k d → 19 + 32 * m ≤ 32 * j + k → 32 * j + k ≤ 46 + 32 * m → Dec (m ≡ j) → d ≡ reads (bitAt c m)
-      go j r h g (yes p) = rw p (r .later (omega arith))
-      go zero r h g (no p) = absurd (omega arith)
-      go (suc j) r h g (no p) = let e : m ≡ j = omega arith in rw e (r .earlier (omega arith))
+  decided-own : (j k m : ℕ) → k < 32 → ReadAcross (bitBefore c j) (bitAt c j) k d → 19 + 32 * m ≤ 32 * j + k → 32 * j + k ≤ 46 + 32 * m
+      → Dec (m ≡ j) → Reads d (bitAt c m)
+  decided-own j k m l r h g (yes p) = rw p (r .later (omega arith))
+  decided-own zero k m l r h g (no p) = absurd (omega arith)
+  decided-own (suc j) k m l r h g (no p) = let e : m ≡ j = omega arith in rw e (r .earlier (omega arith))
 
-  decided-at : (j k : ℕ) → k < 32 → Read (bitBefore c j) (bitAt c j) k d → DecidedAt c (32 * j + k) d
-  decided-at j k l r = record { good = r .good; mark-before = decided-before j k r; own-bit = λ m. decided-own j k m l r }
+  decided-at : (j k : ℕ) → k < 32 → ReadAcross (bitBefore c j) (bitAt c j) k d → DecidedAt c (32 * j + k) d
+  decided-at j k l r =
+      record { good = r .good; mark-before = decided-before j k r; own-bit = λ m h g. decided-own j k m l r h g (ℕ-discrete m j) }
 
 -- The control before that window: X are the events still to come, and Y those behind this character.
-pub data Within (c : ℕ) (Y : List ℕ) (t : ℕ) : Control → List ℕ → Type 0 where
+pub data Underway (c : ℕ) (Y : List ℕ) (t : ℕ) : Control → List ℕ → Type 0 where
   -- its start is not yet found
-  before : {s : Control} {X : List ℕ} → t ≤ 19 → BetweenCharacters (c ∷ Y) t s X → Within c Y t s X
+  before : {s : Control} {X : List ℕ} → t ≤ 19 → BetweenCharacters (c ∷ Y) t s X → Underway c Y t s X
   -- slot m is to be taken at the window with wait + t - 1 samples
   reading : (wait m byte : ℕ) → 1 ≤ wait → m ≤ 9 → 32 + 32 * m ≤ wait + t → wait + t ≤ 36 + 32 * m → byte ≡ soFar c m
-      → Within c Y t (at 32 (Waiting wait m byte)) (c ∷ Y)
+      → Underway c Y t (at 32 (Waiting wait m byte)) (c ∷ Y)
   -- its event is given
-  ended : 320 ≤ t → Within c Y t (at 32 Searching) Y
+  ended : 320 ≤ t → Underway c Y t (at 32 Searching) Y
 
 module _ (c : ℕ) (small : c < 256) (Y : List ℕ) (t : ℕ) (d : Decision) (h : DecidedAt c t d) where
-  abbrev Next : Control → List ℕ → Type 0
-  Next = Within c Y (suc t)
+  abbrev Next : Invariant
+  Next = Underway c Y (suc t)
 
-  not-both : d ≡ reads 1 → d ≡ reads 0 → ⊥
-  not-both p q = false≢true (ap (λ (x : Decision). x .space) (sym p ∙ q))
+  start-bit : 19 ≤ t → t ≤ 46 → Reads d 0
+  start-bit a b = subst (Reads d) (bit-start c) (h .own-bit 0 (omega arith) (omega arith))
 
-  step-before : t ≤ 19 → (s : Control) (X : List ℕ) → BetweenCharacters (c ∷ Y) t s X → Moves Next s d X
+  step-before : t ≤ 19 → Keeps (BetweenCharacters (c ∷ Y) t) d Next
   step-before l s X r =
       lt-or-le t 15
       (λ p. moves-on (λ s X r. before (omega arith) r) (stays-between (c ∷ Y) t d (h .mark-before (omega arith)) s X r))
       (λ p. from-15 p s X r)
     where
-      from-15 : 15 ≤ t → (s : Control) (X : List ℕ) → BetweenCharacters (c ∷ Y) t s X → Moves Next s d X
+      from-15 : 15 ≤ t → Keeps (BetweenCharacters (c ∷ Y) t) d Next
       from-15 p s X (stop-due byte wait a b) = absurd (omega arith)
-      from-15 p s X none-due = ⊎-elim mark space (either-bit d (h .good))
+      from-15 p s X none-due = go (d .space) refl
         where
-          mark : d ≡ reads 1 → Moves Next (at 32 Searching) d (c ∷ Y)
-          mark e =
-              searches d e
+          go : (space : Bool) → d .space ≡ space → Moves Next (at 32 Searching) d (c ∷ Y)
+          go true e =
+              finds d (record { good = h .good; space = e }) (reading 16 0 0 (omega arith) (omega arith) (omega arith) (omega arith) refl)
+          go false e =
+              searches d (record { good = h .good; space = e })
               (lt-or-le t 19 (λ q. before (omega arith) none-due)
-              (λ q. absurd (not-both e (h .own-bit 0 (omega arith) (omega arith) ∙ ap reads (bit-start c)))))
-
-          space : d ≡ reads 0 → Moves Next (at 32 Searching) d (c ∷ Y)
-          space e = finds d e (reading 16 0 0 (omega arith) (omega arith) (omega arith) (omega arith) refl)
+              (λ q. absurd (false≢true (sym e ∙ start-bit (omega arith) (omega arith) .space))))
 
   -- a slot is taken at this window
   step-start : 32 ≤ 1 + t → 1 + t ≤ 36 → (byte : ℕ) → Moves Next (at 32 (Waiting 1 0 byte)) d (c ∷ Y)
   step-start a b byte =
-      goes d 0 (h .own-bit 0 (omega arith) (omega arith) ∙ ap reads (bit-start c)) (Waiting 1 0 byte) (quiet (Waiting 32 1 0)) (c ∷ Y)
-      (wait-taken 32 (reads 0) 1 0 byte refl ∙ start-found byte (reads 0) 0 refl refl refl)
+      let r : Reads d 0 = start-bit (omega arith) (omega arith) in
+      goes d (h .good) (Waiting 1 0 byte) (quiet (Waiting 32 1 0)) (c ∷ Y)
+      (wait-taken 32 d 1 0 byte refl ∙ start-found byte d 0 refl (h .good) (r .space))
       (reading 32 1 0 (omega arith) (omega arith) (omega arith) (omega arith) (omega arith))
 
   step-data : (i byte : ℕ) → i < 8 → 32 + 32 * suc i ≤ 1 + t → 1 + t ≤ 36 + 32 * suc i → byte ≡ soFar c (suc i)
       → Moves Next (at 32 (Waiting 1 (suc i) byte)) d (c ∷ Y)
   step-data i byte l a b e =
-      let bit : ℕ = c / 2 ^ i % 2 in
-      let sum : gathered (suc i) byte (isSpace bit) ≡ soFar c (suc i + 1) =
-      ap (λ (x : ℕ). gathered (suc i) x (isSpace bit)) e ∙ gather c i ∙ ap (soFar c) (sym (add-one (suc i))) in
-      goes d bit (h .own-bit (suc i) (omega arith) (omega arith) ∙ ap reads (bit-data c i l)) (Waiting 1 (suc i) byte)
-      (quiet (Waiting 32 (suc i + 1) (gathered (suc i) byte (isSpace bit)))) (c ∷ Y)
-      (wait-taken 32 (reads bit) 1 (suc i) byte refl ∙ data-bit byte (reads bit) (suc i) (λ z. omega arith) refl (omega arith))
-      (reading 32 (suc i + 1) (gathered (suc i) byte (isSpace bit)) (omega arith) (omega arith) (omega arith) (omega arith) sum)
+      let r : Reads d (c / 2 ^ i % 2) = subst (Reads d) (bit-data c i l) (h .own-bit (suc i) (omega arith) (omega arith)) in
+      let byte′ : ℕ = gathered (suc i) byte (d .space) in
+      let sum : byte′ ≡ soFar c (suc i + 1) = ap₂ (gathered (suc i)) e (r .space) ∙ gather c i ∙ ap (soFar c) (sym (add-one (suc i))) in
+      goes d (h .good) (Waiting 1 (suc i) byte) (quiet (Waiting 32 (suc i + 1) byte′)) (c ∷ Y)
+      (wait-taken 32 d 1 (suc i) byte refl ∙ data-bit byte d (suc i) (λ z. omega arith) (h .good) (omega arith))
+      (reading 32 (suc i + 1) byte′ (omega arith) (omega arith) (omega arith) (omega arith) sum)
 
   step-stop : (byte : ℕ) → 320 ≤ 1 + t → 1 + t ≤ 324 → byte ≡ soFar c 9 → Moves Next (at 32 (Waiting 1 9 byte)) d (c ∷ Y)
   step-stop byte a b e =
       let q : c ≡ byte = sym (e ∙ mod-eq-of-lt small) in
       subst (λ (x : ℕ). Moves Next (at 32 (Waiting 1 9 byte)) d (x ∷ Y)) (sym q)
-      (stops d (h .own-bit 9 (omega arith) (omega arith) ∙ ap reads (bit-stop c)) byte (ended (omega arith)))
+      (stops d (subst (Reads d) (bit-stop c) (h .own-bit 9 (omega arith) (omega arith))) byte (ended (omega arith)))
 
   step-reading : (wait m byte : ℕ) → 1 ≤ wait → m ≤ 9 → 32 + 32 * m ≤ wait + t → wait + t ≤ 36 + 32 * m → byte ≡ soFar c m
       → Moves Next (at 32 (Waiting wait m byte)) d (c ∷ Y)
@@ -160,27 +157,23 @@ module _ (c : ℕ) (small : c < 256) (Y : List ℕ) (t : ℕ) (d : Decision) (h 
       go (yes p) = rw p (step-stop byte (omega arith) (omega arith) (e ∙ ap (λ (k : ℕ). soFar c (suc k)) p))
       go (no p) = step-data i byte (omega arith) a b e
 
-  step : t < 320 → (s : Control) (X : List ℕ) → Within c Y t s X → Moves Next s d X
+  step : t < 320 → Keeps (Underway c Y t) d Next
   step l s X (before a r) = step-before a s X r
   step l s X (reading wait m byte a b p q e) = step-reading wait m byte a b p q e
   step l s X (ended a) = absurd (omega arith)
 
 -- window k of bit j
-pub within-step : (c : ℕ) → c < 256 → (Y : List ℕ) (j k : ℕ) → j < 10 → k < 32 → (d : Decision) → Read (bitBefore c j) (bitAt c j) k d
-    → (s : Control) (X : List ℕ) → Within c Y (32 * j + k) s X → Moves (Within c Y (32 * j + suc k)) s d X
-within-step c small Y j k l h d r s X w =
+pub underway-step : (c : ℕ) → c < 256 → (Y : List ℕ) (j k : ℕ) → j < 10 → k < 32 → (d : Decision) → ReadAcross (bitBefore c j) (bitAt c j) k d
+    → Keeps (Underway c Y (32 * j + k)) d (Underway c Y (32 * j + suc k))
+underway-step c small Y j k l h d r s X w =
     let e : 32 * j + suc k ≡ suc (32 * j + k) = omega arith in
     rw e (step c small Y (32 * j + k) d (decided-at c d j k h r) (omega arith) s X w)
 
--- ---- into a character and out of it
-
-pub enter : (c : ℕ) (Y : List ℕ) (s : Control) (X : List ℕ) → BetweenCharacters (c ∷ Y) 0 s X → Within c Y 0 s X
-enter c Y s X r = before (omega arith) r
-
-pub leave : (c : ℕ) → c < 256 → (Y : List ℕ) (s : Control) (X : List ℕ) → Within c Y 320 s X → BetweenCharacters Y 0 s X
-leave c small Y s X (before a r) = absurd (omega arith)
-leave c small Y s X (reading wait m byte a b p q e) =
+-- behind its last bit
+pub leave : {c : ℕ} → c < 256 → {Y : List ℕ} {s : Control} {X : List ℕ} → Underway c Y 320 s X → BetweenCharacters Y 0 s X
+leave small (before a r) = absurd (omega arith)
+leave {c} small (reading wait m byte a b p q e) =
     let nine : m ≡ 9 = omega arith in
     let whole : byte ≡ c = e ∙ ap (soFar c) nine ∙ mod-eq-of-lt small in
     rw (nine, whole) (stop-due c wait a (omega arith))
-leave c small Y s X (ended a) = none-due
+leave small (ended a) = none-due

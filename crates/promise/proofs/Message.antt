@@ -13,7 +13,7 @@ use Rattle.integers.specs.Near.{altered}
 use Rattle.integers.specs.Sums.{Bounded}
 use Rattle.calls.specs.Lists.{each}
 use Rattle.tones.specs.Bands.{isBand, tonesOf}
-use Rattle.tones.specs.Samples.{areSamples}
+use Rattle.tones.specs.Samples.{mostSamples, areSamples}
 use Rattle.transmitter.specs.Samples.{sendBits, messageBits}
 use Rattle.transmitter.specs.Calls as transmitter
 use Rattle.transmitter.specs.Lists as sending
@@ -24,7 +24,7 @@ use Rattle.receiver.proofs.Lists.{one-reading}
 use Rattle.margin.specs.Windows.{disturbance}
 use Rattle.promise.specs.Recordings.{AreBytes, silence, Transmission}
 use Rattle.promise.specs.Possible.{Block, sendingCalls, IsText, Possible}
-use Rattle.promise.proofs.Promise.{sent-samples, demand-3}
+use Rattle.promise.proofs.Promise.{sent-samples, all-read}
 use Rattle.promise.proofs.Possible.{message-sent, is-sending, recorded-samples, not-vacuous}
 
 -- the numbers of a list of bytes
@@ -42,12 +42,12 @@ unfolding blocks
 blocks-join [] = refl
 blocks-join (x ∷ xs) = ap (λ (l : List ℤ). x ∷ l) (blocks-join xs)
 
-blocks-short : (xs : List ℤ) → All (λ block. length (block .samples) ≤ 16384) (blocks xs)
+blocks-short : (xs : List ℤ) → All (λ block. length (block .samples) ≤ mostSamples) (blocks xs)
 unfolding blocks
 blocks-short [] = none
-blocks-short (x ∷ xs) = let h : 1 ≤ 16384 = omega arith in more h (blocks-short xs)
+blocks-short (x ∷ xs) = let h : 1 ≤ mostSamples = omega arith in more h (blocks-short xs)
 
-module _ (band : ℕ) (known : isBand band ≡ true) (cs : List ℕ) (bytes : AreBytes cs) (few : length cs ≤ 100) (ds : List ℤ) (small : Bounded disturbance ds) where
+module _ (band : ℕ) (known : isBand band ≡ true) (cs : List ℕ) (bytes : AreBytes cs) (few : length cs ≤ transmitter.mostCharacters) (ds : List ℤ) (small : Bounded disturbance ds) where
   abbrev recorded : List ℤ
   recorded = altered (sendBits (tonesOf band) 0 (messageBits cs)) ds
 
@@ -87,4 +87,4 @@ module _ (band : ℕ) (known : isBand band ≡ true) (cs : List ℕ) (bytes : Ar
       (one-reading (fresh (t .band)) (t .blocks) .events
       ∙ ap₂ (λ (b : ℕ) (xs : List ℤ). eventsAfter (fresh b) xs) (read .in-band)
       (t .read ∙ read .recorded ∙ blocks-join recorded))
-      ∙ demand-3 t t .first ∙ read .message ∙ joined
+      ∙ all-read t t .first ∙ read .message ∙ joined

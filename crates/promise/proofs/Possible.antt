@@ -11,6 +11,7 @@ use lib.IntN.{ℤ, pos}
 use lib.ListN.{length, replicate, length-replicate}
 use Rattle.integers.specs.All.{All, none, more}
 use Rattle.integers.specs.Sums.{Bounded}
+use Rattle.integers.proofs.All.{all-append}
 use Rattle.integers.proofs.Near.{near-bounded}
 use Rattle.integers.proofs.Sums.{bounded-append, bounded-zeros}
 use Rattle.calls.specs.Outcome.{isAccepted}
@@ -18,7 +19,7 @@ use Rattle.calls.specs.Runs.{after}
 use Rattle.calls.specs.Lists.{acceptedCalls, each}
 use Rattle.calls.proofs.Lists.{joined-each, Accepts, all-accepted}
 use Rattle.tones.specs.Bands.{isBand}
-use Rattle.tones.specs.Samples.{areSamples}
+use Rattle.tones.specs.Samples.{mostSamples, areSamples}
 use Rattle.tones.proofs.Samples.{samples-append, bounded-samples}
 use Rattle.transmitter.specs.declared.Transmitter.{Transmitter}
 use Rattle.transmitter.specs.Calls as transmitter
@@ -48,7 +49,7 @@ joinedBlocks = each (λ (b : Block). b .samples)
 
 SendFits : sending.Call → Type 0
 SendFits (sending.idle lent) = 96 ≤ length lent
-SendFits (sending.characters bytes lent) = (length bytes ≤ 100) × (320 * length bytes ≤ length lent)
+SendFits (sending.characters bytes lent) = (length bytes ≤ transmitter.mostCharacters) × (320 * length bytes ≤ length lent)
 
 send-accepts : (s : Transmitter) (c : sending.Call) → transmitter.inRange s ≡ true → SendFits c
     → Accepts (λ (t : Transmitter). transmitter.inRange t ≡ true) (sending.callOf s c)
@@ -77,10 +78,6 @@ ending-bytes : (texts : List (List ℕ)) → each bytesOf (endingCalls texts) �
 ending-bytes [] = refl
 ending-bytes (t ∷ texts) = ap (λ (l : List ℕ). t ++ l) (ending-bytes texts)
 
-all-append : {A : Type 0} {P : A → Type 0} {xs ys : List A} → All P xs → All P ys → All P (xs ++ ys)
-all-append none k = k
-all-append (more h r) k = more h (all-append r k)
-
 texts-bytes : (texts : List (List ℕ)) → All IsText texts → AreBytes (joinedTexts texts)
 texts-bytes [] none = none
 texts-bytes (t ∷ texts) (more h hs) = all-append (h .bytes) (texts-bytes texts hs)
@@ -88,7 +85,7 @@ texts-bytes (t ∷ texts) (more h hs) = all-append (h .bytes) (texts-bytes texts
 -- ---- reading
 
 record ReadFits (c : reading.Call) : Type 0 where
-  few : length (c .samples) ≤ 16384
+  few : length (c .samples) ≤ mostSamples
   samples : areSamples (c .samples) ≡ true
   room : receiver.placesFor (length (c .samples)) ≤ length (c .lent)
 
@@ -98,7 +95,7 @@ unfolding after
 read-accepts s c h f =
     record { yes = ap isAccepted (block-0 s (c .samples) (c .lent) h (f .few) (f .samples) (f .room)); kept = one-reading s (c ∷ []) .range h }
 
-blocks-fit : (blocks : List Block) → All (λ block. length (block .samples) ≤ 16384) blocks → areSamples (joinedBlocks blocks) ≡ true
+blocks-fit : (blocks : List Block) → All (λ block. length (block .samples) ≤ mostSamples) blocks → areSamples (joinedBlocks blocks) ≡ true
     → All ReadFits (blockCalls blocks)
 blocks-fit [] none h = none
 blocks-fit (block ∷ blocks) (more l ls) h =

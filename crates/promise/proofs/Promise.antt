@@ -1,4 +1,4 @@
--- Demand 3, from what a receiver gives of a recording and the laws of lists of calls.
+-- That what is read is what was sent, from what a receiver gives of a recording and the laws of lists of calls.
 -- Assumes nothing.
 use mathlib.Core.Path.{_≡_, refl, sym, ap, _∙_, subst}
 use mathlib.Core.List.{List, [], _∷_, _++_, append-assoc}
@@ -18,11 +18,11 @@ use Rattle.receiver.specs.Calls as receiver
 use Rattle.receiver.specs.Lists as reading
 use Rattle.receiver.proofs.Lists.{one-reading}
 use Rattle.receiver.proofs.Windows.{by-windows}
-use Rattle.margin.specs.Windows.{Margins}
+use Rattle.margin.specs.Windows.{disturbance, Margins}
 use Rattle.margin.proofs.Bands.{margins}
 use Rattle.promise.specs.Recordings as recordings
 use Rattle.promise.specs.Recordings.{AreBytes, bytesOf, charactersSent, EndsSending, IsSending, trailer, text, leader, silence, Recording, Transmission, characters, events}
-use Rattle.promise.specs.Demand.{ReadAsSent, Demand3}
+use Rattle.promise.specs.ReadAsSent.{ReadAsSent}
 use Rattle.promise.proofs.Recording.{recorded}
 
 -- ---- the bits of a sending
@@ -95,5 +95,6 @@ module _ {noise : ℕ} (M : (band : ℕ) → Margins noise (tonesOf band)) where
         equal = (λ e. sym first ∙ e ∙ second, λ e. first ∙ e ∙ sym second);
       }
 
-pub demand-3 : Demand3
-demand-3 = both-read margins
+-- the bands have the margins with at most 100
+pub all-read : (a b : Transmission disturbance) → ReadAsSent a b
+all-read = both-read margins

@@ -7,7 +7,7 @@ use mathlib.Core.List.{List, [], _∷_, _++_, append-assoc}
 use Prim.Native.Nat.{ℕ, zero, suc, _+_, _*_, _≤_, _<_}
 use native.Mathlib.Omega.{arith}
 use lib.IntN.{ℤ, pos}
-use lib.ListN.{length, take, drop, length-append, length-drop, length-replicate}
+use lib.ListN.{length, take, drop, replicate, length-append, length-drop, length-replicate}
 use lib.Seq.{drop-cons, drop-at}
 use Rattle.integers.specs.All.{none, more}
 use Rattle.integers.specs.Near.{Near}
@@ -19,22 +19,25 @@ use Rattle.tones.specs.declared.Tones.{Tones}
 use Rattle.transmitter.specs.Samples.{send, bitSteps, sendBits, idleBits, dataBits, charBits, charactersBits}
 use Rattle.transmitter.proofs.Laws.{bitAt, length-char}
 use Rattle.control.specs.declared.Stage.the-variants.{Searching}
-use Rattle.control.specs.Control.{Control}
+use Rattle.control.specs.declared.Control.{Control}
 use Rattle.control.specs.Rules.{reports}
 use Rattle.receiver.specs.Energy.{decisionOf}
 use Rattle.receiver.proofs.Windows.{decisions-none}
 use Rattle.margin.specs.Windows.{phaseAfterBit, markThenSilence, Margins}
 use Rattle.promise.specs.Recordings.{AreBytes, silence}
-use Rattle.promise.proofs.Steps.{at, Moves}
-use Rattle.promise.proofs.Along.{Gives, along}
+use Rattle.promise.proofs.Steps.{at, Invariant, Keeps}
+use Rattle.promise.proofs.Along.{Gives, GivesFrom, along}
 use Rattle.promise.proofs.Windows.{silences, mark-then-silence-window, silent-behind, silent-window, sentFrom, sent-next, through-bit}
 use Rattle.promise.proofs.Phases.{Silent, silent, silent-step, FirstBit, short-run, first-bit-step, SecondBit, growing-run, second-bit-step}
 use Rattle.promise.proofs.Phases.{AfterTrailer, still-searching, after-trailer-step, after-trailer-due}
-use Rattle.promise.proofs.Characters.{BetweenCharacters, none-due, stop-due, stays-between, bitBefore, Within, within-step, enter, leave}
+use Rattle.promise.proofs.Characters.{BetweenCharacters, none-due, stop-due, stays-between, bitBefore, Underway, before, underway-step, leave}
 
 module _ {noise : ℕ} (t : Tones) (M : Margins noise t) (m : ℕ) where
   abbrev ReadAs : List ℤ → Control → List ℕ → Type 0
   ReadAs = Gives noise (decisionOf t)
+
+  abbrev ReadFrom : Invariant → List ℤ → Type 0
+  ReadFrom = GivesFrom noise (decisionOf t)
 
   -- the sending from the bit a on, which begins at the phase p
   abbrev sending : ℕ → ℕ → List ℕ → List ℤ
@@ -60,11 +63,11 @@ module _ {noise : ℕ} (t : Tones) (M : Margins noise t) (m : ℕ) where
         M .silent w (subst (λ (c : List ℤ). Near noise c w) (silent-behind last (length-wave 32 (t .mark) p) m k (omega arith) l) n)
 
     -- fewer than 32 samples are left, and nothing is due
-    nothing : (s : Control) (X : List ℕ) → AfterTrailer (m + 1) s X → ReadAs (drop (m + 1) (last ++ silence m)) s X
+    nothing : ReadFrom (AfterTrailer (m + 1)) (drop (m + 1) (last ++ silence m))
     unfolding gives
     nothing s X f zs n =
         ap (reports s) (decisions-none (decisionOf t) zs (omega (arith, near-length n, length-drop (m + 1) (last ++ silence m), long)))
-        ∙ after-trailer-due (m + 1) s X f
+        ∙ after-trailer-due f
 
     from-last : ReadAs (sending p 1 []) (at 32 Searching) []
     unfolding send bitSteps
@@ -74,76 +77,61 @@ module _ {noise : ℕ} (t : Tones) (M : Margins noise t) (m : ℕ) where
 
   -- ---- a mark behind a mark: what was stop-due is given
   through-mark : (p : ℕ) → M .Begins p → (bits Y : List ℕ) → ReadAs (sending (phaseAfterBit t p 1) 1 bits) (at 32 Searching) Y
-      → (s : Control) (X : List ℕ) → BetweenCharacters Y 0 s X → ReadAs (sending p 1 (1 ∷ bits)) s X
+      → ReadFrom (BetweenCharacters Y 0) (sending p 1 (1 ∷ bits))
   through-mark p begins bits Y rest =
       through-bit t M p begins 1 1 bits m (BetweenCharacters Y) (λ k h d r. stays-between Y k d (r .steady refl)) mark-over
     where
-      mark-over : (s : Control) (X : List ℕ) → BetweenCharacters Y 32 s X → ReadAs (sending (phaseAfterBit t p 1) 1 bits) s X
+      mark-over : ReadFrom (BetweenCharacters Y 32) (sending (phaseAfterBit t p 1) 1 bits)
       mark-over s X none-due = rest
       mark-over s X (stop-due byte wait a b) = absurd (omega arith)
 
   -- ---- from the trailer on
-  from-trailer : (p : ℕ) → M .Begins p → (s : Control) (X : List ℕ) → BetweenCharacters [] 0 s X → ReadAs (sending p 1 idleBits) s X
-  from-trailer p begins = through-mark p begins (1 ∷ 1 ∷ []) [] (second (at 32 Searching) [] none-due)
-    where
-      q : ℕ
-      q = phaseAfterBit t p 1
+  from-marks : (n p : ℕ) → M .Begins p → ReadFrom (BetweenCharacters [] 0) (sending p 1 (1 ∷ replicate n 1))
+  from-marks zero p begins = through-mark p begins [] [] (from-last (phaseAfterBit t p 1) (M .next-bit p begins 1))
+  from-marks (suc n) p begins =
+      through-mark p begins (1 ∷ replicate n 1) [] (from-marks n (phaseAfterBit t p 1) (M .next-bit p begins 1) (at 32 Searching) [] none-due)
 
-      q′ : ℕ
-      q′ = phaseAfterBit t q 1
-
-      begins-q : M .Begins q
-      begins-q = M .next-bit p begins 1
-
-      begins-q′ : M .Begins q′
-      begins-q′ = M .next-bit q begins-q 1
-
-      third : (s : Control) (X : List ℕ) → BetweenCharacters [] 0 s X → ReadAs (sending q′ 1 (1 ∷ [])) s X
-      third = through-mark q′ begins-q′ [] [] (from-last (phaseAfterBit t q′ 1) (M .next-bit q′ begins-q′ 1))
-
-      second : (s : Control) (X : List ℕ) → BetweenCharacters [] 0 s X → ReadAs (sending q 1 (1 ∷ 1 ∷ [])) s X
-      second = through-mark q begins-q (1 ∷ []) [] (third (at 32 Searching) [] none-due)
+  from-trailer : (p : ℕ) → M .Begins p → ReadFrom (BetweenCharacters [] 0) (sending p 1 idleBits)
+  from-trailer = from-marks 2
 
   -- ---- a character
   module _ (c : ℕ) (small : c < 256) (Y bits : List ℕ)
-      (rest : (p : ℕ) → M .Begins p → (s : Control) (X : List ℕ) → BetweenCharacters Y 0 s X → ReadAs (sending p 1 bits) s X) where
+      (rest : (p : ℕ) → M .Begins p → ReadFrom (BetweenCharacters Y 0) (sending p 1 bits)) where
     -- from bit j on, with n bits to come
-    from-bit : (n j : ℕ) → j + n ≡ 10 → (p : ℕ) → M .Begins p → (s : Control) (X : List ℕ) → Within c Y (32 * j) s X
-        → ReadAs (sending p (bitBefore c j) (drop j (charBits c) ++ bits)) s X
+    from-bit : (n j : ℕ) → j + n ≡ 10 → (p : ℕ) → M .Begins p → ReadFrom (Underway c Y (32 * j)) (sending p (bitBefore c j) (drop j (charBits c) ++ bits))
     unfolding charBits dataBits
     from-bit zero j e p begins s X w =
         let ten : j ≡ 10 = omega arith in
         subst (λ (i : ℕ). ReadAs (sending p (bitBefore c i) (drop i (charBits c) ++ bits)) s X) (sym ten)
-        (rest p begins s X (leave c small Y s X (rw ten at w)))
+        (rest p begins s X (leave small (rw ten at w)))
     from-bit (suc n) j e p begins s X w =
         let a : ℕ = bitBefore c j in
         let next : drop j (charBits c) ≡ bitAt c j ∷ drop (suc j) (charBits c) = drop-cons (charBits c) j 1 (omega (arith, length-char c)) in
         let first : 32 * j ≡ 32 * j + 0 = omega arith in
         let later : 32 * j + 32 ≡ 32 * suc j = omega arith in
         subst (λ (bs : List ℕ). ReadAs (sending p a (bs ++ bits)) s X) (sym next)
-        (through-bit t M p begins a (bitAt c j) (drop (suc j) (charBits c) ++ bits) m (λ k. Within c Y (32 * j + k))
-        (λ k h. within-step c small Y j k (omega arith) h)
+        (through-bit t M p begins a (bitAt c j) (drop (suc j) (charBits c) ++ bits) m (λ k. Underway c Y (32 * j + k))
+        (λ k h. underway-step c small Y j k (omega arith) h)
         (λ s X w. from-bit n (suc j) (omega arith) (phaseAfterBit t p a) (M .next-bit p begins a) s X (rw later at w))
         s X (rw first at w))
 
-    through-character : (p : ℕ) → M .Begins p → (s : Control) (X : List ℕ) → BetweenCharacters (c ∷ Y) 0 s X → ReadAs (sending p 1 (charBits c ++ bits)) s X
-    through-character p begins s X r = from-bit 10 0 refl p begins s X (enter c Y s X r)
+    through-character : (p : ℕ) → M .Begins p → ReadFrom (BetweenCharacters (c ∷ Y) 0) (sending p 1 (charBits c ++ bits))
+    through-character p begins s X r = from-bit 10 0 refl p begins s X (before (omega arith) r)
 
   -- ---- from the characters on
-  from-message : (cs : List ℕ) → AreBytes cs → (p : ℕ) → M .Begins p → (s : Control) (X : List ℕ) → BetweenCharacters cs 0 s X
-      → ReadAs (sending p 1 (charactersBits cs ++ idleBits)) s X
+  from-message : (cs : List ℕ) → AreBytes cs → (p : ℕ) → M .Begins p → ReadFrom (BetweenCharacters cs 0) (sending p 1 (charactersBits cs ++ idleBits))
   unfolding charactersBits
-  from-message [] none p begins s X r = from-trailer p begins s X r
-  from-message (c ∷ cs) (more small b) p begins s X r =
-      subst (λ (bits : List ℕ). ReadAs (sending p 1 bits) s X) (sym (append-assoc (charBits c) (charactersBits cs) idleBits))
-      (through-character c small cs (charactersBits cs ++ idleBits) (from-message cs b) p begins s X r)
+  from-message [] none p begins = from-trailer p begins
+  from-message (c ∷ cs) (more small b) p begins =
+      subst (λ (bits : List ℕ). ReadFrom (BetweenCharacters (c ∷ cs) 0) (sending p 1 bits)) (sym (append-assoc (charBits c) (charactersBits cs) idleBits))
+      (through-character c small cs (charactersBits cs ++ idleBits) (from-message cs b) p begins)
 
   -- ---- from the leader on
   module _ (cs : List ℕ) (bytes : AreBytes cs) where
     abbrev message : List ℕ
     message = charactersBits cs ++ idleBits
 
-    from-leader : (s : Control) (X : List ℕ) → SecondBit cs 0 s X → ReadAs (sending 0 1 (1 ∷ 1 ∷ message)) s X
+    from-leader : ReadFrom (SecondBit cs 0) (sending 0 1 (1 ∷ 1 ∷ message))
     from-leader = through-bit t M 0 (M .first-bit) 1 1 (1 ∷ message) m (SecondBit cs) (λ k h d r. second-bit-step cs k h d (r .steady refl)) second-bit-over
       where
         p : ℕ
@@ -152,7 +140,7 @@ module _ {noise : ℕ} (t : Tones) (M : Margins noise t) (m : ℕ) where
         begins : M .Begins p
         begins = M .next-bit 0 (M .first-bit) 1
 
-        second-bit-over : (s : Control) (X : List ℕ) → SecondBit cs 32 s X → ReadAs (sending p 1 (1 ∷ message)) s X
+        second-bit-over : ReadFrom (SecondBit cs 32) (sending p 1 (1 ∷ message))
         second-bit-over s X (growing-run run a b) =
             let full : run ≡ 32 = omega arith in
             rw full
@@ -170,7 +158,7 @@ module _ {noise : ℕ} (t : Tones) (M : Margins noise t) (m : ℕ) where
         along noise (decisionOf t) (silence 31 ++ sent) 31 (omega (arith, long-sent)) (FirstBit cs)
         (λ k h w n. first-bit-step cs k h (decisionOf t w)) first-bit-over (at 0 Searching) cs (short-run 0 (omega arith))
       where
-        first-bit-over : (s : Control) (X : List ℕ) → FirstBit cs 31 s X → ReadAs (drop 31 (silence 31 ++ sent)) s X
+        first-bit-over : ReadFrom (FirstBit cs 31) (drop 31 (silence 31 ++ sent))
         first-bit-over s X (short-run run l) = from-leader (at run Searching) cs (growing-run run (omega arith) (omega arith))
 
     -- the whole recording, behind the 31 silent samples that a fresh window brings
@@ -189,12 +177,12 @@ module _ {noise : ℕ} (t : Tones) (M : Margins noise t) (m : ℕ) where
         long = omega (arith, length-append (silence n) (silence 31 ++ sent), length-replicate n (pos 0))
 
         quiet-window : (k : ℕ) → k < n → (w : List ℤ) → Near noise (take 32 (drop k (silence n ++ (silence 31 ++ sent)))) w
-            → (s : Control) (X : List ℕ) → Silent cs k s X → Moves (Silent cs (suc k)) s (decisionOf t w) X
+            → Keeps (Silent cs k) (decisionOf t w) (Silent cs (suc k))
         quiet-window k h w near =
             silent-step cs k (decisionOf t w)
             (M .silent w
             (subst (λ (c : List ℤ). Near noise c w) (ap (λ (xs : List ℤ). take 32 (drop k xs)) (silences n 31 sent) ∙ silent-window (n + 31) k sent (omega arith)) near))
 
-        rest : (s : Control) (X : List ℕ) → Silent cs n s X → ReadAs (drop n (silence n ++ (silence 31 ++ sent))) s X
+        rest : ReadFrom (Silent cs n) (drop n (silence n ++ (silence 31 ++ sent)))
         rest s X silent =
             subst (λ (clean : List ℤ). ReadAs clean (at 0 Searching) cs) (sym (drop-at (silence n) (silence 31 ++ sent) n (length-replicate n (pos 0)))) from-first-bit

@@ -17,12 +17,11 @@ use Rattle.tones.specs.Bands.{stepOf}
 use Rattle.transmitter.specs.Samples.{sendBits}
 use Rattle.transmitter.proofs.Laws.{send-bits-append, send-bit, phase-bit}
 use Rattle.control.specs.declared.Decision.{Decision}
-use Rattle.control.specs.Control.{Control}
 use Rattle.receiver.specs.Energy.{decisionOf}
 use Rattle.margin.specs.Windows.{phaseAfterBit, across, Margins}
 use Rattle.promise.specs.Recordings.{silence}
-use Rattle.promise.proofs.Steps.{reads, as-read, Moves}
-use Rattle.promise.proofs.Along.{Gives, along}
+use Rattle.promise.proofs.Steps.{Reads, Invariant, Keeps}
+use Rattle.promise.proofs.Along.{GivesFrom, along}
 
 -- one silence behind another
 pub silences : (n m : ℕ) (more : List ℤ) → silence n ++ (silence m ++ more) ≡ silence (n + m) ++ more
@@ -64,22 +63,22 @@ module _ (a : List ℤ) (e : length a ≡ 32) (m k : ℕ) (l : k ≤ m) where
       ∙ silent-window m (k - 32) [] (omega arith)
 
 -- What is read in a window with k samples of the bit b behind those of the bit a: the first up to 14, the second from 19 on.
-pub record Read (a b k : ℕ) (d : Decision) : Type 0 where
+pub record ReadAcross (a b k : ℕ) (d : Decision) : Type 0 where
   pub good : d .good ≡ true
-  pub earlier : k ≤ 14 → d ≡ reads a
-  pub later : 19 ≤ k → d ≡ reads b
-  pub steady : a ≡ b → d ≡ reads a
+  pub earlier : k ≤ 14 → Reads d a
+  pub later : 19 ≤ k → Reads d b
+  pub steady : a ≡ b → Reads d a
 
 module _ {noise : ℕ} (t : Tones) (M : Margins noise t) where
-  read : (p : ℕ) → M .Begins p → (a b k : ℕ) → k < 32 → (w : List ℤ) → Near noise (across t p a b k) w → Read a b k (decisionOf t w)
-  read p s a b k h w n =
+  read-across : (p : ℕ) → M .Begins p → (a b k : ℕ) → k < 32 → (w : List ℤ) → Near noise (across t p a b k) w → ReadAcross a b k (decisionOf t w)
+  read-across p s a b k h w n =
       let d : Decision = decisionOf t w in
       let good : d .good ≡ true = M .carrier p s a b k h w n in
       record {
         good = good;
-        earlier = λ l. as-read d a good (M .earlier p s a b k l w n);
-        later = λ l. as-read d b good (M .later p s a b k l h w n);
-        steady = λ e. as-read d a good (M .steady p s a k h w (subst (λ (c : ℕ). Near noise (across t p a c k) w) (sym e) n));
+        earlier = λ l. record { good = good; space = M .earlier p s a b k l w n };
+        later = λ l. record { good = good; space = M .later p s a b k l h w n };
+        steady = λ e. record { good = good; space = M .steady p s a k h w (subst (λ (c : ℕ). Near noise (across t p a c k) w) (sym e) n) };
       }
 
   -- the samples from the bit a on, which begins at the phase p: the bit, those behind it, and m silent ones
@@ -95,9 +94,9 @@ module _ {noise : ℕ} (t : Tones) (M : Margins noise t) where
       ∙ append-assoc (wave 32 (stepOf t b) p) (sendBits t (phaseAfterBit t p b) bits) (silence m)
 
   -- The 32 windows from the bit a to the bit b behind it keep an invariant, and from b on what is then due is given.
-  module _ (p : ℕ) (begins : M .Begins p) (a b : ℕ) (bits : List ℕ) (m : ℕ) (I : ℕ → Control → List ℕ → Type 0)
-      (step : (k : ℕ) → k < 32 → (d : Decision) → Read a b k d → (s : Control) (X : List ℕ) → I k s X → Moves (I (suc k)) s d X)
-      (rest : (s : Control) (X : List ℕ) → I 32 s X → Gives noise (decisionOf t) (sentFrom (phaseAfterBit t p a) b bits m) s X) where
+  module _ (p : ℕ) (begins : M .Begins p) (a b : ℕ) (bits : List ℕ) (m : ℕ) (I : ℕ → Invariant)
+      (step : (k : ℕ) → k < 32 → (d : Decision) → ReadAcross a b k d → Keeps (I k) d (I (suc k)))
+      (rest : GivesFrom noise (decisionOf t) (I 32) (sentFrom (phaseAfterBit t p a) b bits m)) where
     abbrev first : List ℤ
     first = wave 32 (stepOf t a) p
 
@@ -112,11 +111,10 @@ module _ {noise : ℕ} (t : Tones) (M : Margins noise t) where
     two-bits k h =
         window first second more k (length-wave 32 (stepOf t a) p) (omega arith) (omega (arith, length-wave 32 (stepOf t b) (phaseAfterBit t p a)))
 
-    pub through-bit : (s : Control) (X : List ℕ) → I 0 s X → Gives noise (decisionOf t) (sentFrom p a (b ∷ bits) m) s X
-    through-bit s X i =
-        subst (λ (clean : List ℤ). Gives noise (decisionOf t) clean s X) (ap (λ (xs : List ℤ). first ++ xs) (sym (sent-next (phaseAfterBit t p a) b bits m)))
+    pub through-bit : GivesFrom noise (decisionOf t) (I 0) (sentFrom p a (b ∷ bits) m)
+    through-bit =
+        subst (GivesFrom noise (decisionOf t) (I 0)) (ap (λ (xs : List ℤ). first ++ xs) (sym (sent-next (phaseAfterBit t p a) b bits m)))
         (along noise (decisionOf t) (first ++ (second ++ more)) 32
         (omega (arith, length-append first (second ++ more), length-append second more, length-wave 32 (stepOf t a) p, length-wave 32 (stepOf t b) (phaseAfterBit t p a)))
-        I (λ k h w n. step k h (decisionOf t w) (read p begins a b k h w (subst (λ (c : List ℤ). Near noise c w) (two-bits k h) n)))
-        (λ s X i. subst (λ (clean : List ℤ). Gives noise (decisionOf t) clean s X) (sym (drop-at first (second ++ more) 32 (length-wave 32 (stepOf t a) p))) (rest s X i))
-        s X i)
+        I (λ k h w n. step k h (decisionOf t w) (read-across p begins a b k h w (subst (λ (c : List ℤ). Near noise c w) (two-bits k h) n)))
+        (subst (GivesFrom noise (decisionOf t) (I 32)) (sym (drop-at first (second ++ more) 32 (length-wave 32 (stepOf t a) p))) rest))

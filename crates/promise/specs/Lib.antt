@@ -1,3 +1,3 @@
 pub mod Recordings
-pub mod Demand
+pub mod ReadAsSent
 pub mod Possible

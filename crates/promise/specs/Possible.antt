@@ -12,6 +12,7 @@ use Rattle.integers.specs.Near.{altered}
 use Rattle.integers.specs.Sums.{Bounded}
 use Rattle.calls.specs.Lists.{acceptedCalls, each}
 use Rattle.tones.specs.Bands.{isBand}
+use Rattle.tones.specs.Samples.{mostSamples}
 use Rattle.transmitter.specs.Calls as transmitter
 use Rattle.transmitter.specs.Lists as sending
 use Rattle.receiver.specs.Calls as receiver
@@ -46,7 +47,7 @@ blockCalls (block ∷ blocks) =
 -- bytes for one characters call
 pub record IsText (text : List ℕ) : Type 0 where
   pub bytes : AreBytes text
-  pub few : length text ≤ 100
+  pub few : length text ≤ transmitter.mostCharacters
 
 -- a transmission by these calls, all of them accepted
 pub record Possible (band : ℕ) (texts : List (List ℕ)) (blocks : List Block) : Type 0 where
@@ -65,7 +66,7 @@ abbrev pub NotVacuous : Type 0
 NotVacuous =
     (band : ℕ) → isBand band ≡ true → (texts : List (List ℕ)) → All IsText texts
     → (before after : ℕ) (added : List ℤ) → Bounded disturbance added
-    → (blocks : List Block) → All (λ block. length (block .samples) ≤ 16384) blocks
+    → (blocks : List Block) → All (λ block. length (block .samples) ≤ mostSamples) blocks
     → each (λ (b : Block). b .samples) blocks
     ≡ altered (silence before ++ (sending.samplesWritten (transmitter.fresh band) (sendingCalls texts) ++ silence after)) added
     → Possible band texts blocks

@@ -8,6 +8,8 @@ use Prim.Native.Nat.{ℕ, _+_, _-_, zero-le}
 use native.Mathlib.Omega.{arith}
 use lib.IntN.{ℤ}
 use Rattle.integers.proofs.Near.{altered-none}
+use Rattle.calls.specs.Refusals.{firstOf}
+use Rattle.tones.specs.Samples.{mostSamples}
 use Rattle.tones.proofs.Laws.{band-digit}
 use Rattle.receiver.specs.Step.{eventsAfter}
 use Rattle.receiver.specs.Calls.{fresh}
@@ -17,15 +19,16 @@ use Rattle.promise.proofs.Message.{message-read}
 use Rattle.digits.specs.Numbers.{isDigit}
 use Rattle.digits.proofs.Numbers.{is-digit}
 use Rattle.sheet.specs.Text.{sheetOf}
+use Rattle.sheet.specs.Calls.{mostBytes}
 use Rattle.sheet.proofs.RoundTrip.{written-read, read-written}
-use Rattle.modulator.specs.Modulate.{sendNumber, modulated}
+use Rattle.modulator.specs.Modulate.{sendTests, modulated}
 use Rattle.modulator.proofs.Cases.{Printable, printable, sending-accepted, digit-first}
 use Rattle.demodulator.specs.Lines.{eventsText}
 use Rattle.demodulator.specs.Demodulate.{demodulated}
 use Rattle.demodulator.proofs.Cases.{reading-accepted}
 use Rattle.read_back.specs.ReadBack.{ReadBack}
 
-module _ (band : ℕ) (message : List ℕ) (bytes : AreBytes message) (accepted : sendNumber band message ≡ 0) where
+module _ (band : ℕ) (message : List ℕ) (bytes : AreBytes message) (accepted : firstOf (sendTests band message) ≡ 0) where
   abbrev all : Printable band message
   all = printable band message accepted
 
@@ -50,8 +53,8 @@ module _ (band : ℕ) (message : List ℕ) (bytes : AreBytes message) (accepted 
 
   read : demodulated (sheetOf band samples) ≡ eventsText message
   read =
-      let r = written-read band samples 65536 (all .written) in
-      sym (reading-accepted (sheetOf band samples) (read-written band samples 65536 (all .written) 16384 (all .written .few)))
+      let r = written-read band samples mostBytes (all .written) in
+      sym (reading-accepted (sheetOf band samples) (read-written band samples mostBytes (all .written) mostSamples (all .written .few)))
       ∙ ap eventsText (ap₂ (λ (b : ℕ) (xs : List ℤ). eventsAfter (fresh b) xs) (r .band-read) (r .samples-read) ∙ promised)
 
   joined : demodulated (modulated ((48 + band) ∷ message)) ≡ eventsText message

@@ -3,8 +3,9 @@
 use mathlib.Core.Path.{_≡_}
 use mathlib.Core.List.{List, _∷_}
 use Prim.Native.Nat.{ℕ, _+_}
+use Rattle.calls.specs.Refusals.{firstOf}
 use Rattle.promise.specs.Recordings.{AreBytes}
-use Rattle.modulator.specs.Modulate.{sendNumber, modulated}
+use Rattle.modulator.specs.Modulate.{sendTests, modulated}
 use Rattle.demodulator.specs.Lines.{eventsText}
 use Rattle.demodulator.specs.Demodulate.{demodulated}
 
@@ -12,5 +13,5 @@ use Rattle.demodulator.specs.Demodulate.{demodulated}
 -- message, `demodulate` prints the event lines of exactly that message.
 abbrev pub ReadBack : Type 0
 ReadBack =
-    (band : ℕ) (message : List ℕ) → AreBytes message → sendNumber band message ≡ 0
+    (band : ℕ) (message : List ℕ) → AreBytes message → firstOf (sendTests band message) ≡ 0
     → demodulated (modulated ((48 + band) ∷ message)) ≡ eventsText message

@@ -19,15 +19,13 @@ use Rattle.tones.specs.Bands.{tonesOf}
 use Rattle.tones.specs.Samples.{areSamples}
 use Rattle.tones.proofs.Samples.{samples-append, samples-drop}
 use Rattle.control.specs.declared.Decision.{Decision}
-use Rattle.control.specs.Control.{Control}
 use Rattle.control.specs.Rules.{reports}
-use Rattle.receiver.specs.declared.Progress.{Progress}
+use Rattle.receiver.specs.declared.scan.Reached.{Reached}
 use Rattle.receiver.specs.declared.Receiver.{Receiver}
-use Rattle.receiver.specs.Energy.{decisionBy}
 use Rattle.receiver.specs.Step.{controlOf, stateAfter, eventsAfter}
-use Rattle.receiver.specs.Windows.{decisions, progressed, lastWindow}
-use Rattle.receiver.specs.Places.{recorded, IsSource, decisionsBy}
+use Rattle.receiver.specs.Windows.{decisions}
 use Rattle.receiver.specs.Calls.{inRange, placesFor}
+use Rattle.receiver.specs.AsCoded.{decisionBy, reachedBy, lastWindow, recorded, IsSource, decisionsBy}
 use Rattle.receiver.proofs.Energies.{decision-by, bank-of}
 use Rattle.receiver.proofs.Ranges.{in-range}
 use Rattle.receiver.proofs.Counting.{events-few}
@@ -115,21 +113,21 @@ module _ {s : Receiver} {xs : List ℤ} {lent : List ℕ} {n : ℕ} {head : List
   pub block-room : length (reports (controlOf s) (decisionsOver s xs)) ≤ length lent
   block-room = omega (arith, events-few s xs (a .range), a .room, ap length (by-windows s xs (a .long) .events))
 
-  module _ (q : Progress) (eq : q ≡ progressed (controlOf s) (decisionsOver s xs)) (events : List ℕ)
+  module _ (q : Reached) (eq : q ≡ reachedBy (controlOf s) (decisionsOver s xs)) (events : List ℕ)
       (ee : events ≡ sets lent 0 (reports (controlOf s) (decisionsOver s xs))) (window : List ℤ) (ew : window ≡ lastWindow head xs) where
     told : eventsAfter s xs ≡ reports (controlOf s) (decisionsOver s xs)
     told = by-windows s xs (a .long) .events
 
-    q-control : _≡_ {A = Control} (record { run = q .run; stage = q .stage }) (controlOf (stateAfter s xs))
-    q-control = ap (λ (u : Progress). record { run = u .run; stage = u .stage }) eq ∙ sym (by-windows s xs (a .long) .control)
+    q-control : q .control ≡ controlOf (stateAfter s xs)
+    q-control = ap (λ (u : Reached). u .control) eq ∙ sym (by-windows s xs (a .long) .control)
 
     q-count : q .count ≡ length (eventsAfter s xs)
-    q-count = ap (λ (u : Progress). u .count) eq ∙ ap length (sym told)
+    q-count = ap (λ (u : Reached). u .count) eq ∙ ap length (sym told)
 
     stored : events ≡ eventsAfter s xs ++ drop (length (eventsAfter s xs)) lent
     stored = ee ∙ ap (sets lent 0) (sym told) ∙ sets-front (eventsAfter s xs) lent (omega (arith, block-room, ap length told))
 
-    pub block-read : outcome (record { number = 0; count = q .count }) (record { band = s .band; window = window; run = q .run; stage = q .stage }) events
+    pub block-read : outcome (record { number = 0; count = q .count }) (record { band = s .band; window = window; run = q .control .run; stage = q .control .stage }) events
         ≡ accepted (stateAfter s xs) (eventsAfter s xs) lent
     block-read i =
         record {

@@ -1,57 +1,59 @@
--- The cases of a block call, by its tests, and what the code gives when it refuses.
+-- What is known if a block call is not refused, that it is accepted then, and what the code gives when it refuses.
 -- Assumes nothing.
-use mathlib.Core.Path.{_≡_, sym, ap, _∙_}
-use mathlib.Core.Bool.{true, false, not}
+use mathlib.Core.Path.{_≡_, ap, _∙_}
+use mathlib.Core.Bool.{true}
 use mathlib.Core.List.{List}
-use Prim.Native.Nat.{ℕ, suc, _<_, _≤_}
-use borrow.Author.Tests.{lt-ltb, le-ltb, not-false}
-use lib.Dec.{ltb}
+use Prim.Native.Nat.{ℕ, suc, _≤_}
+use borrow.Author.Tests.{le-ltb, ltb-false, not-false}
 use lib.IntN.{ℤ}
 use lib.ListN.{length}
-use Rattle.integers.proofs.Tests.{cond-split}
+use Rattle.integers.specs.All.{none, more}
+use Rattle.calls.specs.Refusals.{firstOf}
 use Rattle.calls.specs.Outcome.{Outcome, outcome, refused, accepted}
-use Rattle.tones.specs.Samples.{areSamples}
+use Rattle.calls.proofs.Refusals.{NoneHolds, none-holds, is-refused, refused-or}
+use Rattle.tones.specs.Samples.{mostSamples, areSamples}
 use Rattle.receiver.specs.declared.Reading.{Reading}
 use Rattle.receiver.specs.declared.Receiver.{Receiver}
 use Rattle.receiver.specs.Step.{stateAfter, eventsAfter}
-use Rattle.receiver.specs.Calls.{inRange, placesFor, blockOf}
+use Rattle.receiver.specs.Calls.{inRange, placesFor, blockTests, blockOf}
 
-module _ (s : Receiver) (xs : List ℤ) (lent : List ℕ) where
-  pub block-2 : inRange s ≡ false → blockOf s xs lent ≡ refused 2 s lent
-  unfolding blockOf
-  block-2 r = simp r
+module _ (s : Receiver) (xs : List ℤ) where
+  pub record Readable (places : ℕ) : Type 0 where
+    pub ranged : inRange s ≡ true
+    pub few : length xs ≤ mostSamples
+    pub sound : areSamples xs ≡ true
+    pub room : placesFor (length xs) ≤ places
 
-  module _ (r : inRange s ≡ true) where
-    pub block-3 : 16384 < length xs → blockOf s xs lent ≡ refused 3 s lent
+  pub block-known : (places : ℕ) → firstOf (blockTests s xs places) ≡ 0 → Readable places
+  block-known places e = known (none-holds (blockTests s xs places) _ e)
+    where
+      known : NoneHolds (blockTests s xs places) → Readable places
+      known (more r (more l (more a (more p none)))) =
+          record {
+            ranged = not-false (inRange s) r;
+            few = ltb-false mostSamples (length xs) l;
+            sound = not-false (areSamples xs) a;
+            room = ltb-false places (placesFor (length xs)) p;
+          }
+
+  module _ (lent : List ℕ) where
+    pub block-0 : inRange s ≡ true → length xs ≤ mostSamples → areSamples xs ≡ true → placesFor (length xs) ≤ length lent
+        → blockOf s xs lent ≡ accepted (stateAfter s xs) (eventsAfter s xs) lent
     unfolding blockOf
-    block-3 l = simp (r, lt-ltb 16384 (length xs) l)
+    block-0 r l a p = simp (r, le-ltb mostSamples (length xs) l, a, le-ltb (length lent) (placesFor (length xs)) p)
 
-    module _ (l : length xs ≤ 16384) where
-      pub block-5 : areSamples xs ≡ false → blockOf s xs lent ≡ refused 5 s lent
-      unfolding blockOf
-      block-5 a = simp (r, le-ltb 16384 (length xs) l, a)
+    -- what holds of every refusal and of an accepted call holds of a call
+    pub block-case : (P : Outcome Receiver (List ℕ) → Type 0) → ((n : ℕ) → P (refused (suc n) s lent))
+        → (Readable (length lent) → P (accepted (stateAfter s xs) (eventsAfter s xs) lent)) → P (blockOf s xs lent)
+    unfolding blockOf
+    block-case P refuses reads =
+        refused-or (blockTests s xs (length lent)) s lent (accepted (stateAfter s xs) (eventsAfter s xs) lent) P refuses
+        (λ e. reads (block-known (length lent) e))
 
-      module _ (a : areSamples xs ≡ true) where
-        pub block-4 : length lent < placesFor (length xs) → blockOf s xs lent ≡ refused 4 s lent
-        unfolding blockOf
-        block-4 p = simp (r, le-ltb 16384 (length xs) l, a, lt-ltb (length lent) (placesFor (length xs)) p)
-
-        pub block-0 : placesFor (length xs) ≤ length lent → blockOf s xs lent ≡ accepted (stateAfter s xs) (eventsAfter s xs) lent
-        unfolding blockOf
-        block-0 p = simp (r, le-ltb 16384 (length xs) l, a, le-ltb (length lent) (placesFor (length xs)) p)
-
-  -- what holds of every refusal and of an accepted call holds of a call
-  pub block-case : (P : Outcome Receiver ℕ → Type 0) → ((n : ℕ) → P (refused (suc n) s lent))
-      → (inRange s ≡ true → areSamples xs ≡ true → P (accepted (stateAfter s xs) (eventsAfter s xs) lent)) → P (blockOf s xs lent)
-  unfolding blockOf
-  block-case P refuses reads =
-      cond-split P (not (inRange s)) _ _ (λ r. refuses 1)
-      (λ r. cond-split P (ltb 16384 (length xs)) _ _ (λ l. refuses 2)
-      (λ l. cond-split P (not (areSamples xs)) _ _ (λ a. refuses 4)
-      (λ a. cond-split P (ltb (length lent) (placesFor (length xs))) _ _ (λ p. refuses 3)
-      (λ p. reads (not-false (inRange s) r) (not-false (areSamples xs) a)))))
-
--- a refusal is the outcome o
-pub refusal : (r : Reading) (n : ℕ) (s : Receiver) (lent : List ℕ) {o : Outcome Receiver ℕ} → o ≡ refused n s lent
-    → r ≡ record { receiver = s; answer = record { number = n; count = 0 } } → outcome (r .answer) (r .receiver) lent ≡ o
-refusal r n s lent e h = ap (λ (x : Reading). outcome (x .answer) (x .receiver) lent) h ∙ sym e
+    -- what the code gives with the number of a refusal
+    pub refusal : (r : Reading) (n : ℕ) → n ≡ firstOf (blockTests s xs (length lent)) → (n ≡ 0 → ⊥)
+        → r ≡ record { receiver = s; answer = record { number = n; count = 0 } } → outcome (r .answer) (r .receiver) lent ≡ blockOf s xs lent
+    unfolding blockOf
+    refusal r n e h q =
+        ap (λ (x : Reading). outcome (x .answer) (x .receiver) lent) q
+        ∙ is-refused (blockTests s xs (length lent)) s lent (accepted (stateAfter s xs) (eventsAfter s xs) lent) n e h

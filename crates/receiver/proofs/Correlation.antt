@@ -14,7 +14,7 @@ use Rattle.integers.specs.Sums.{dot}
 use Rattle.integers.proofs.Size.{add-size, mul-size, fits-size}
 use Rattle.integers.proofs.Sums.{dot-next}
 use Rattle.tones.proofs.Samples.{samples-bound}
-use Rattle.receiver.specs.Energy.{IsWindow, AreWeights}
+use Rattle.receiver.specs.AsCoded.{IsWindow, AreWeights}
 
 -- `sum` is the sum of the first j products
 pub record Summing (xs ws : List ℤ) (j : ℕ) (sum : ℤ) : Type 0 where

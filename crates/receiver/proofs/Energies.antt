@@ -19,7 +19,8 @@ use Rattle.sine.specs.Wave.{wave, weightsOf}
 use Rattle.sine.proofs.Wave.{length-wave, wave-at}
 use Rattle.sine.proofs.Parts.{length-weights, weights-bound, weights-parts}
 use Rattle.tones.specs.declared.Tones.{Tones}
-use Rattle.receiver.specs.Energy.{inPhase, quadrature, energy, energyℕ, level, decided, decisionOf, AreWeights, energyBy, IsBank, kind, decisionBy}
+use Rattle.receiver.specs.Energy.{inPhase, quadrature, energy, energyℕ, level, decided, decisionOf}
+use Rattle.receiver.specs.AsCoded.{AreWeights, energyBy, IsBank, kind, decisionBy}
 
 -- ---- by lists of weights
 

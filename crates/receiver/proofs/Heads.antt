@@ -10,7 +10,7 @@ use lib.IntN.{ℤ}
 use lib.ListN.{length, take, drop, length-append, length-drop}
 use lib.Seq.{sets, length-sets, length-take-le, take-all, take-at}
 use Rattle.integers.proofs.Lists.{sets-append, sets-front, sets-whole}
-use Rattle.receiver.specs.Windows.{lastWindow}
+use Rattle.receiver.specs.AsCoded.{lastWindow}
 
 -- the head: the window and the first n samples, stored one behind the other
 pub head-is : (zeros old xs head : List ℤ) (n : ℕ) → length zeros ≡ 64 → length old ≡ 32 → n ≤ 31 → n ≤ length xs

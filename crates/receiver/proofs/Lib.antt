@@ -2,6 +2,7 @@ pub mod Energies
 pub mod Correlation
 pub mod Ranges
 pub mod Counting
+pub mod Events
 pub mod Windows
 pub mod Places
 pub mod Onward

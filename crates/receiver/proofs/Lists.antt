@@ -5,40 +5,40 @@ use mathlib.Core.Bool.{true, false≢true}
 use mathlib.Core.List.{List, [], _∷_, _++_}
 use mathlib.Mathlib.Data.Bool.Basic.{and-intro}
 use Prim.Native.Nat.{ℕ, suc}
-use lib.Dec.{eqb, eqb·suc-zero}
+use lib.Dec.{eqb·suc-zero}
 use lib.IntN.{ℤ}
+use lib.ListN.{length}
 use Rattle.calls.specs.Outcome.{Outcome, refused, isAccepted, front}
 use Rattle.calls.specs.Runs.{after}
 use Rattle.calls.specs.Lists as lists
 use Rattle.calls.proofs.Runs.{RunLaws, run-laws}
-use Rattle.calls.proofs.Lists.{IsRun, refused-run, accepted-run, joined-state, joined-front}
-use Rattle.tones.specs.Samples.{areSamples}
+use Rattle.calls.proofs.Lists.{one-keeps, IsRun, refused-run, accepted-run, joined-state, joined-front}
 use Rattle.tones.proofs.Samples.{samples-append}
 use Rattle.receiver.specs.declared.Receiver.{Receiver}
-use Rattle.receiver.specs.Step.{stepOf, eventsAt, stateAfter, eventsAfter}
+use Rattle.receiver.specs.Step.{afterSample, eventsAt, stateAfter, eventsAfter}
 use Rattle.receiver.specs.Calls.{inRange}
 use Rattle.receiver.specs.Lists.{byValue, Call, callOf, samplesRead, eventsRead, OneReading, TwoBlocks}
 use Rattle.receiver.proofs.Ranges.{state-kept}
 use Rattle.receiver.proofs.Counting.{events-few}
-use Rattle.receiver.proofs.Calls.{block-0, block-case}
+use Rattle.receiver.proofs.Calls.{Readable, block-0, block-case}
 
 -- reading samples from a state is a run over them
 reading-laws : RunLaws stateAfter eventsAfter
-reading-laws = run-laws stepOf eventsAt
+reading-laws = run-laws afterSample eventsAt
 
 -- each call is one
-refuses : (s : Receiver) (c : Call) (n : ℕ) → IsRun stateAfter eventsAfter reading-laws (c .samples) s (refused (suc n) s (c .lent))
-refuses s c n = refused-run stateAfter eventsAfter reading-laws n s (c .samples) (c .lent)
+refuses : (s : Receiver) (c : Call) (n : ℕ) → IsRun one-keeps reading-laws (c .samples) s (refused (suc n) s (c .lent))
+refuses s c n = refused-run one-keeps reading-laws n s (c .samples) (c .lent)
 
-call-runs : (s : Receiver) (c : Call) → IsRun stateAfter eventsAfter reading-laws (c .samples) s (callOf s c)
+call-runs : (s : Receiver) (c : Call) → IsRun one-keeps reading-laws (c .samples) s (callOf s c)
 call-runs s c =
-    block-case s (c .samples) (c .lent) (IsRun stateAfter eventsAfter reading-laws (c .samples) s) (refuses s c)
-    (λ r a. accepted-run stateAfter eventsAfter reading-laws s (c .samples) (c .lent))
+    block-case s (c .samples) (c .lent) (IsRun one-keeps reading-laws (c .samples) s) (refuses s c)
+    (λ k. accepted-run one-keeps reading-laws s (c .samples) (c .lent))
 
 -- a call keeps a state in its ranges
 call-kept : (s : Receiver) (c : Call) → inRange s ≡ true → inRange (callOf s c .state) ≡ true
 call-kept s c h =
-    block-case s (c .samples) (c .lent) (λ (o : Outcome Receiver ℕ). inRange (o .state) ≡ true) (λ n. h) (λ r a. state-kept s (c .samples) r a)
+    block-case s (c .samples) (c .lent) (λ (o : Outcome Receiver (List ℕ)). inRange (o .state) ≡ true) (λ n. h) (λ k. state-kept s (c .samples) (k .ranged) (k .sound))
 
 calls-kept : (s : Receiver) (calls : List Call) → inRange s ≡ true → inRange (lists.stateAfter callOf s calls) ≡ true
 unfolding after
@@ -49,31 +49,28 @@ pub one-reading : (s : Receiver) (calls : List Call) → OneReading s calls
 one-reading s calls =
     record {
       events = events;
-      state = joined-state stateAfter eventsAfter reading-laws callOf (λ c. c .samples) call-runs calls s;
+      state = joined-state one-keeps reading-laws callOf (λ c. c .samples) call-runs s calls;
       range = calls-kept s calls;
       few = λ h. rw events (events-few s (samplesRead s calls) h);
     }
   where
     events : eventsRead s calls ≡ eventsAfter s (samplesRead s calls)
-    events = joined-front stateAfter eventsAfter reading-laws callOf (λ c. c .samples) call-runs calls s
+    events = joined-front one-keeps reading-laws callOf (λ c. c .samples) call-runs s calls
 
 -- ---- two blocks
 
 -- an accepted call
 module _ (s : Receiver) (c : Call) (a : isAccepted (callOf s c) ≡ true) where
   call-state : callOf s c .state ≡ stateAfter s (c .samples)
-  call-state = rw a at (call-runs s c .state)
+  call-state = rw a at (call-runs s c .moves)
 
   call-events : front (callOf s c) ≡ eventsAfter s (c .samples)
-  call-events = rw a at (call-runs s c .wrote)
+  call-events = rw a at (call-runs s c .shows)
 
-  call-sound : (inRange s ≡ true) × (areSamples (c .samples) ≡ true)
-  call-sound =
-      block-case s (c .samples) (c .lent) (λ (o : Outcome Receiver ℕ). isAccepted o ≡ true → (inRange s ≡ true) × (areSamples (c .samples) ≡ true))
-      no (λ r x e. (r, x)) a
-    where
-      no : (n : ℕ) → eqb (suc n) 0 ≡ true → (inRange s ≡ true) × (areSamples (c .samples) ≡ true)
-      no n e = absurd (false≢true (sym (eqb·suc-zero n) ∙ e))
+  call-known : Readable s (c .samples) (length (c .lent))
+  call-known =
+      block-case s (c .samples) (c .lent) (λ (o : Outcome Receiver (List ℕ)). isAccepted o ≡ true → Readable s (c .samples) (length (c .lent)))
+      (λ n e. absurd (false≢true (sym (eqb·suc-zero n) ∙ e))) (λ k e. k) a
 
 pub two-blocks : (s : Receiver) (one two : Call) (lent : List ℕ) → TwoBlocks s one two lent
 two-blocks s one two lent a b few room =
@@ -81,7 +78,7 @@ two-blocks s one two lent a b few room =
     let ys : List ℤ = two .samples in
     let next : Receiver = callOf s one .state in
     let both : Call = record { entry = byValue; samples = xs ++ ys; lent = lent } in
-    let ok = ap isAccepted (block-0 s (xs ++ ys) lent (call-sound s one a .0) few (samples-append xs ys ∙ and-intro (call-sound s one a .1) (call-sound next two b .1)) room) in
+    let ok = ap isAccepted (block-0 s (xs ++ ys) lent (call-known s one a .ranged) few (samples-append xs ys ∙ and-intro (call-known s one a .sound) (call-known next two b .sound)) room) in
     let e : next ≡ stateAfter s xs = call-state s one a in
     record {
       accepted = ok;

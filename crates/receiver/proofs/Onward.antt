@@ -16,15 +16,16 @@ use Rattle.control.specs.declared.Event.the-variants.{Nothing}
 use Rattle.control.specs.declared.Next.{Next}
 use Rattle.control.specs.declared.Stage.{Stage}
 use Rattle.control.specs.declared.Stage.the-variants.{Waiting}
-use Rattle.control.specs.Control.{isStage}
-use Rattle.control.specs.Rules.{numbers, quiet, isFound, nextOf, waitOver, runOver, NoneFound}
+use Rattle.control.specs.Ranges.{isStage}
+use Rattle.control.specs.Rules.{numbers, quiet, nextOf}
+use Rattle.control.specs.AsCoded.{isFound, waitOver, runOver, NoneFound}
 use Rattle.control.proofs.Rules.{wait-parts, IsSearch}
 use Rattle.control.proofs.Ranges.{wait-low, stage-wait, stage-slot}
 use Rattle.control.proofs.Stretches.{Leads, run-low, found-other, none-short, none-more, none-last, lead-more, waits, searches}
-use Rattle.receiver.specs.declared.Place.{Place}
-use Rattle.receiver.specs.declared.Sought.{Sought}
-use Rattle.receiver.specs.declared.Turn.{Turn}
-use Rattle.receiver.specs.Places.{judged, IsPlace, runBefore, runAt, controlAt, exactly, movedTo, skipped, Seeks, missedAt, soughtTo, Onward}
+use Rattle.receiver.specs.declared.moves.Place.{Place}
+use Rattle.receiver.specs.declared.seek.Sought.{Sought}
+use Rattle.receiver.specs.declared.scan.Turn.{Turn}
+use Rattle.receiver.specs.AsCoded.{judged, IsPlace, runBefore, runAt, controlAt, exactly, movedTo, skipped, Seeks, missedAt, soughtTo, Onward}
 use Rattle.receiver.proofs.Places.{decision-more, place-exact, run-exact, known-first, place-moved, place-more, run-on, run-more, run-bad, run-most}
 
 module _ (ds : List Decision) (p : Place) where

@@ -11,10 +11,11 @@ use Rattle.integers.proofs.Tests.{lt-or-le}
 use Rattle.integers.proofs.Lists.{slice-join, slice-more}
 use Rattle.calls.specs.Runs.{after}
 use Rattle.control.specs.declared.Decision.{Decision}
-use Rattle.control.specs.Rules.{runAfter, runOver}
+use Rattle.control.specs.Rules.{runAfter}
+use Rattle.control.specs.AsCoded.{runOver}
 use Rattle.control.proofs.Stretches.{run-append, run-low, run-slow}
-use Rattle.receiver.specs.declared.Place.{Place}
-use Rattle.receiver.specs.Places.{judged, IsPlace, runBefore, runAt, exactly, movedTo}
+use Rattle.receiver.specs.declared.moves.Place.{Place}
+use Rattle.receiver.specs.AsCoded.{judged, IsPlace, runBefore, runAt, exactly, movedTo}
 
 module _ (ds : List Decision) where
   -- one decision more

@@ -11,10 +11,10 @@ use Rattle.calls.specs.Runs.{after}
 use Rattle.tones.specs.Bands.{isBand}
 use Rattle.tones.specs.Samples.{isSample, areBetween, areSamples}
 use Rattle.tones.proofs.Samples.{samples-append, samples-drop}
-use Rattle.control.specs.Control.{isStage, isControl}
+use Rattle.control.specs.Ranges.{isStage, isControl}
 use Rattle.control.proofs.Ranges.{control-kept}
 use Rattle.receiver.specs.declared.Receiver.{Receiver}
-use Rattle.receiver.specs.Step.{controlOf, decisionAt, stepOf, stateAfter}
+use Rattle.receiver.specs.Step.{controlOf, decisionAt, afterSample, stateAfter}
 use Rattle.receiver.specs.Calls.{fresh, openOf, inRange}
 
 pub record InRange (s : Receiver) : Type 0 where
@@ -33,8 +33,8 @@ in-range s h =
       control = and-elim-right (areSamples (s .window)) (isControl (controlOf s)) t;
     }
 
-step-kept : (s : Receiver) (x : ℤ) → inRange s ≡ true → isSample x ≡ true → inRange (stepOf s x) ≡ true
-unfolding inRange stepOf areBetween
+step-kept : (s : Receiver) (x : ℤ) → inRange s ≡ true → isSample x ≡ true → inRange (afterSample s x) ≡ true
+unfolding inRange afterSample areBetween
 step-kept s x h l =
     let r : InRange s = in-range s h in
     and-intro (r .band)
@@ -46,7 +46,7 @@ pub state-kept : (s : Receiver) (xs : List ℤ) → inRange s ≡ true → areSa
 unfolding after areBetween
 state-kept s [] h l = h
 state-kept s (x ∷ xs) h l =
-    state-kept (stepOf s x) xs (step-kept s x h (and-elim-left (isSample x) (areSamples xs) l)) (and-elim-right (isSample x) (areSamples xs) l)
+    state-kept (afterSample s x) xs (step-kept s x h (and-elim-left (isSample x) (areSamples xs) l)) (and-elim-right (isSample x) (areSamples xs) l)
 
 -- ---- an opening of a band gives its fresh state, which is in its ranges
 

@@ -16,15 +16,14 @@ use Rattle.calls.proofs.Filling.{Filling, filling-start, filling-more, filling-
 use Rattle.tones.proofs.Samples.{samples-take, samples-drop}
 use Rattle.control.specs.declared.Decision.{Decision}
 use Rattle.control.specs.declared.Stage.{Stage}
-use Rattle.control.specs.Control.{Control, isControl}
+use Rattle.control.specs.declared.Control.{Control}
+use Rattle.control.specs.Ranges.{isControl}
 use Rattle.control.specs.Rules.{numbers, controlAfter, reported, follow, reports}
 use Rattle.control.proofs.Ranges.{control-run, follow-kept}
-use Rattle.receiver.specs.declared.Place.{Place}
-use Rattle.receiver.specs.declared.Progress.{Progress}
-use Rattle.receiver.specs.declared.Turn.{Turn}
-use Rattle.receiver.specs.Energy.{IsWindow, decisionBy}
-use Rattle.receiver.specs.Windows.{progressed}
-use Rattle.receiver.specs.Places.{recorded, IsSource, decisionsBy, judged, IsPlace, runAt, controlAt, exactly, Onward}
+use Rattle.receiver.specs.declared.moves.Place.{Place}
+use Rattle.receiver.specs.declared.scan.Reached.{Reached}
+use Rattle.receiver.specs.declared.scan.Turn.{Turn}
+use Rattle.receiver.specs.AsCoded.{IsWindow, decisionBy, reachedBy, recorded, IsSource, decisionsBy, judged, IsPlace, runAt, controlAt, exactly, Onward}
 use Rattle.receiver.proofs.Windows.{length-decisions, decisions-at}
 use Rattle.receiver.proofs.Places.{place-exact, run-exact}
 
@@ -156,8 +155,8 @@ module _ (ds : List Decision) (lent : List ℕ) (c : Control) where
       counted-end = omega (arith, ap length nothing, s .counted)
 
       pub scanning-end : (run : ℕ) → run ≡ runAt ds at
-          → (_≡_ {A = Progress} (record { run = run; stage = stage; count = count }) (progressed c ds)) × (events ≡ sets lent 0 (reports c ds))
+          → (_≡_ {A = Reached} (record { control = record { run = run; stage = stage }; count = count }) (reachedBy c ds)) × (events ≡ sets lent 0 (reports c ds))
       scanning-end run e = (
-        (λ i. record { run = (e ∙ ap (λ (u : Control). u .run) at-end) i; stage = at-end i .stage; count = counted-end i }),
+        (λ i. record { control = record { run = (e ∙ ap (λ (u : Control). u .run) at-end) i; stage = at-end i .stage }; count = counted-end i }),
         filling-end (rw nothing at (s .filled)),
       )

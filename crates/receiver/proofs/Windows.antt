@@ -16,7 +16,7 @@ use Rattle.control.specs.declared.Decision.{Decision}
 use Rattle.control.specs.Rules.{reported, follow, reports}
 use Rattle.receiver.specs.declared.Receiver.{Receiver}
 use Rattle.receiver.specs.Energy.{decisionOf}
-use Rattle.receiver.specs.Step.{controlOf, entered, decisionAt, stepOf, eventsAt, stateAfter, eventsAfter}
+use Rattle.receiver.specs.Step.{controlOf, entered, decisionAt, afterSample, eventsAt, stateAfter, eventsAfter}
 use Rattle.receiver.specs.Windows.{decisions, decisionsOf}
 
 length-entered : (window : List ℤ) (x : ℤ) → length window ≡ 32 → length (entered window x) ≡ 32
@@ -70,7 +70,7 @@ pub record ByWindows (s : Receiver) (xs : List ℤ) : Type 0 where
   pub events : eventsAfter s xs ≡ reports (controlOf s) (decisionsOver s xs)
 
 pub by-windows : (s : Receiver) (xs : List ℤ) → length (s .window) ≡ 32 → ByWindows s xs
-unfolding stepOf eventsAt after gives
+unfolding afterSample eventsAt after gives
 by-windows s [] e =
     let none : decisionsOver s [] ≡ [] =
     ap (decisionsOf (s .band)) (append-nil (drop 1 (s .window)))
@@ -78,7 +78,7 @@ by-windows s [] e =
     record { control = ap (follow (controlOf s)) (sym none); events = ap (reports (controlOf s)) (sym none) }
 by-windows s (x ∷ xs) e =
     let more = decisions-entered (decisionOf (tonesOf (s .band))) (s .window) x xs e in
-    let rest = by-windows (stepOf s x) xs (length-entered (s .window) x e) in
+    let rest = by-windows (afterSample s x) xs (length-entered (s .window) x e) in
     record {
       control = rest .control ∙ ap (follow (controlOf s)) (sym more);
       events =
@@ -87,17 +87,17 @@ by-windows s (x ∷ xs) e =
     }
 
 pub band-after : (s : Receiver) (xs : List ℤ) → stateAfter s xs .band ≡ s .band
-unfolding after stepOf
+unfolding after afterSample
 band-after s [] = refl
-band-after s (x ∷ xs) = band-after (stepOf s x) xs
+band-after s (x ∷ xs) = band-after (afterSample s x) xs
 
 -- the window after the samples is the end of the old one and the samples
 pub window-after : (s : Receiver) (xs : List ℤ) → length (s .window) ≡ 32 → stateAfter s xs .window ≡ drop (length xs) (s .window ++ xs)
-unfolding after stepOf
+unfolding after afterSample
 window-after s [] e = sym (append-nil (s .window))
 window-after s (x ∷ xs) e =
     let one : 1 + length xs ≡ suc (length xs) = omega arith in
-    window-after (stepOf s x) xs (length-entered (s .window) x e)
+    window-after (afterSample s x) xs (length-entered (s .window) x e)
     ∙ ap (drop (length xs)) (append-snoc (drop 1 (s .window)) x xs ∙ sym (drop-append-le 1 (s .window) (x ∷ xs) (omega arith)))
     ∙ drop-drop (length xs) 1 (s .window ++ x ∷ xs)
     ∙ ap (λ (n : ℕ). drop n (s .window ++ x ∷ xs)) one

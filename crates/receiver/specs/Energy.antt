@@ -1,16 +1,14 @@
 -- The energies of the two tones in a window, and what they decide: document 01, "Reader, step by step", rules 2 and 3.
 -- Assumes nothing.
-use mathlib.Core.Path.{_≡_}
-use mathlib.Core.Bool.{true, cond}
+use mathlib.Core.Bool.{cond}
 use mathlib.Core.List.{List}
 use Prim.Native.Nat.{ℕ, _+_, _*_}
 use lib.IntN.{ℤ, pos, natAbs, _+ℤ_, _*ℤ_}
-use lib.ListN.{length, getD, take, drop}
+use lib.ListN.{getD}
 use lib.Signed.{ltZ, leZ}
-use Rattle.integers.specs.Sums.{dot, sumTo, Bounded}
+use Rattle.integers.specs.Sums.{sumTo}
 use Rattle.sine.specs.Sine.{S, C}
 use Rattle.tones.specs.declared.Tones.{Tones}
-use Rattle.tones.specs.Samples.{areSamples}
 use Rattle.control.specs.declared.Decision.{Decision}
 
 -- ---- rule 2, for the tone with step t
@@ -48,30 +46,3 @@ decided space mark = record { good = leZ (pos level) (larger space mark); space 
 -- the same from a window, for the tones t
 unfoldable pub decisionOf : Tones → List ℤ → Decision
 decisionOf t window = decided (energy window (t .space)) (energy window (t .mark))
-
--- ---- the same from lists of weights, as the code has it: cosines or sines of a tone
-
--- what the code asks of a window and of a list of weights, so that no sum leaves an i32
-pub record IsWindow (xs : List ℤ) : Type 0 where
-  pub long : length xs ≡ 32
-  pub samples : areSamples xs ≡ true
-
-pub record AreWeights (xs : List ℤ) : Type 0 where
-  pub long : length xs ≡ 32
-  pub small : Bounded 6000 xs
-
-abbrev pub energyBy : List ℤ → List ℤ → List ℤ → ℤ
-energyBy cos sin window = dot window cos *ℤ dot window cos +ℤ dot window sin *ℤ dot window sin
-
--- the four lists of a band, one behind the other: cosines and sines of the tone of space, and of the tone of mark
-pub record IsBank (weights : List ℤ) : Type 0 where
-  pub long : length weights ≡ 128
-  pub small : Bounded 6000 weights
-
--- list k of the four
-abbrev pub kind : ℕ → List ℤ → List ℤ
-kind k weights = take 32 (drop (32 * k) weights)
-
-abbrev pub decisionBy : List ℤ → List ℤ → Decision
-decisionBy weights window =
-    decided (energyBy (kind 0 weights) (kind 1 weights) window) (energyBy (kind 2 weights) (kind 3 weights) window)

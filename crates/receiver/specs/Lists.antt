@@ -8,6 +8,7 @@ use lib.IntN.{ℤ}
 use lib.ListN.{length}
 use Rattle.calls.specs.Outcome.{Outcome, isAccepted, front}
 use Rattle.calls.specs.Lists as lists
+use Rattle.tones.specs.Samples.{mostSamples}
 use Rattle.receiver.specs.declared.Receiver.{Receiver}
 use Rattle.receiver.specs.Step.{stateAfter, eventsAfter}
 use Rattle.receiver.specs.Calls.{inRange, placesFor, blockOf}
@@ -24,7 +25,7 @@ pub record Call : Type 0 where
   pub lent : List ℕ
 
 -- the outcome of a call, as the contract of either entry has it
-abbrev pub callOf : Receiver → Call → Outcome Receiver ℕ
+abbrev pub callOf : Receiver → Call → Outcome Receiver (List ℕ)
 callOf s c = blockOf s (c .samples) (c .lent)
 
 -- the accepted blocks, joined in order
@@ -44,14 +45,14 @@ pub record OneReading (s : Receiver) (calls : List Call) : Type 0 where
   pub few : inRange s ≡ true → length (eventsRead s calls) ≤ placesFor (length (samplesRead s calls))
 
 -- The outcome `both` has the state of `second`, and the events of `first` and then those of `second`.
-pub record ReadAs (both first second : Outcome Receiver ℕ) : Type 0 where
+pub record ReadAs (both first second : Outcome Receiver (List ℕ)) : Type 0 where
   pub accepted : isAccepted both ≡ true
   pub state : both .state ≡ second .state
   pub events : front both ≡ front first ++ front second
 
--- Two accepted blocks are read as the block that joins them, if that has at most 16,384 samples and its places are lent.
+-- Two accepted blocks are read as the block that joins them, if that has at most as many samples as a block may have and its places are lent.
 abbrev pub TwoBlocks : Receiver → Call → Call → List ℕ → Type 0
 TwoBlocks s one two lent =
     isAccepted (callOf s one) ≡ true → isAccepted (callOf (callOf s one .state) two) ≡ true
-    → length (one .samples ++ two .samples) ≤ 16384 → placesFor (length (one .samples ++ two .samples)) ≤ length lent
+    → length (one .samples ++ two .samples) ≤ mostSamples → placesFor (length (one .samples ++ two .samples)) ≤ length lent
     → ReadAs (blockOf s (one .samples ++ two .samples) lent) (callOf s one) (callOf (callOf s one .state) two)

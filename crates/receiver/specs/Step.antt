@@ -8,7 +8,7 @@ use lib.ListN.{drop}
 use Rattle.calls.specs.Runs.{after, gives}
 use Rattle.tones.specs.Bands.{tonesOf}
 use Rattle.control.specs.declared.Decision.{Decision}
-use Rattle.control.specs.Control.{Control}
+use Rattle.control.specs.declared.Control.{Control}
 use Rattle.control.specs.Rules.{controlAfter, reported}
 use Rattle.receiver.specs.declared.Receiver.{Receiver}
 use Rattle.receiver.specs.Energy.{decisionOf}
@@ -27,8 +27,8 @@ abbrev pub decisionAt : Receiver → ℤ → Decision
 decisionAt s x = decisionOf (tonesOf (s .band)) (entered (s .window) x)
 
 -- the state after the sample x
-unfoldable pub stepOf : Receiver → ℤ → Receiver
-stepOf s x =
+unfoldable pub afterSample : Receiver → ℤ → Receiver
+afterSample s x =
     let c : Control = controlAfter (controlOf s) (decisionAt s x) in
     record { band = s .band; window = entered (s .window) x; run = c .run; stage = c .stage }
 
@@ -39,7 +39,7 @@ eventsAt s x = reported (controlOf s) (decisionAt s x)
 -- ---- a list of samples: the state after it, and the events in order
 
 abbrev pub stateAfter : Receiver → List ℤ → Receiver
-stateAfter = after stepOf
+stateAfter = after afterSample
 
 abbrev pub eventsAfter : Receiver → List ℤ → List ℕ
-eventsAfter = gives stepOf eventsAt
+eventsAfter = gives afterSample eventsAt

@@ -3,8 +3,8 @@ ghost use mathlib.Core.Path.{_≡_};
 ghost use Prim.Native.Nat.{_<_, _≤_};
 ghost use lib.IntN.{natAbs, _+ℤ_, _*ℤ_};
 ghost use lib.ListN.{length};
-ghost use Rattle.receiver.specs.Energy.{decided, IsWindow, AreWeights, IsBank, energyBy, decisionBy};
-ghost use Rattle.receiver.specs.Places.{IsSource, decisionsBy, judged};
+ghost use Rattle.receiver.specs.Energy.{decided};
+ghost use Rattle.receiver.specs.AsCoded.{IsWindow, AreWeights, energyBy, IsBank, decisionBy, IsSource, decisionsBy, judged};
 use control::Decision;
 
 // The decision at window i of a block, which ends with sample i. The first 31 begin before the block, and stand in the head.

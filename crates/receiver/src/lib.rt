@@ -1,18 +1,24 @@
 // The receiver, document 01's reader: opening, and blocks of samples to events. Events go to the front of a caller's list,
 // document 01's lent list; the state goes in and comes back by value.
 ghost use mathlib.Core.Path.{_≡_};
+ghost use Rattle.calls.specs.Refusals.{firstOf};
 ghost use Rattle.calls.specs.Outcome.{outcome};
-ghost use Rattle.receiver.specs.Calls.{openOf, inRange, blockOf};
+ghost use Rattle.receiver.specs.Calls.{openOf, inRange, blockTests, blockOf};
 
 mod block;
+mod ends;
 mod energy;
 mod moves;
+mod opening;
 mod scan;
 mod seek;
 
 use calls::Answer;
-use control::Event;
+use control::Control;
 use control::Stage;
+
+// The most events of a block: the places that the longest one needs.
+pub const MOST_EVENTS: usize = tones::MOST_SAMPLES / 48 + 1;
 
 // A band, the last 32 samples, oldest first, the run of samples with a good level, and the stage.
 pub struct Receiver {
@@ -34,35 +40,6 @@ pub struct Reading {
     pub answer: Answer,
 }
 
-// What reading a block comes to: run and stage, and the count of events written.
-pub struct Progress {
-    pub run: u8,
-    pub stage: Stage,
-    pub count: usize,
-}
-
-// A place in a block, before the window `next`. Before the window `known` the run was `ran`, and the windows since `since` have a good
-// level.
-pub struct Place {
-    pub next: usize,
-    pub known: usize,
-    pub ran: usize,
-    pub since: usize,
-}
-
-// How far a search went on, and whether its last window ends it.
-pub struct Sought {
-    pub place: Place,
-    pub found: bool,
-}
-
-// How far a stage went on: the stage there, and the event of the last window.
-pub struct Turn {
-    pub place: Place,
-    pub stage: Stage,
-    pub event: Event,
-}
-
 impl Receiver {
     // The fresh state of a band: document 01's opening.
     pub fn open(band: u8) -> Opened
@@ -71,12 +48,12 @@ impl Receiver {
         if tones::is_band(band) {
             Opened {
                 number: 0,
-                receiver: block::fresh(band),
+                receiver: opening::fresh(band),
             }
         } else {
             Opened {
                 number: 1,
-                receiver: block::fresh(1),
+                receiver: opening::fresh(1),
             }
         }
     }
@@ -86,21 +63,32 @@ impl Receiver {
         ensures { λ r. ⌜ outcome (r .answer) (r .receiver) (now (events .exit))
             ≡ blockOf self (now (samples .entry)) (now (events .entry)) ⌝ }
     {
-        if !self.in_range() {
-            return self.refused(2);
-        }
-        if 16384 < samples.len() {
-            return self.refused(3);
-        }
-        let sound = tones::are_samples(samples);
-        let fits = samples.len() / 48 + 1 <= events.len();
-        if !sound {
-            return self.refused(5);
-        }
-        if !fits {
-            return self.refused(4);
+        let number = self.refusal(samples, events.len());
+        if number != 0 {
+            return self.refused(number);
         }
         block::read(self, samples, events)
+    }
+
+    // The number of the first reason to refuse a block with so many places lent, or 0.
+    fn refusal(self, samples: &[i16], places: usize) -> u8
+        ensures { λ r. ⌜ r ≡ firstOf (blockTests self (now (samples .entry)) places) ⌝ }
+    {
+        if !self.in_range() {
+            return 2;
+        }
+        if tones::MOST_SAMPLES < samples.len() {
+            return 3;
+        }
+        let sound = tones::are_samples(samples);
+        let fits = samples.len() / 48 + 1 <= places;
+        if !sound {
+            return 5;
+        }
+        if !fits {
+            return 4;
+        }
+        0
     }
 
     // The state is in its ranges.
@@ -114,7 +102,10 @@ impl Receiver {
         } else if !tones::are_samples(&window) {
             false
         } else {
-            control::is_control(self.run, stage)
+            control::is_control(Control {
+                run: self.run,
+                stage,
+            })
         }
     }
 

@@ -1,8 +1,16 @@
 // Places in a block: how far it is read, and what is known of the run there.
 ghost use mathlib.Core.Path.{_≡_};
 ghost use Prim.Native.Nat.{_-_, _<_, min, max};
-ghost use Rattle.receiver.specs.Places.{exactly, movedTo, skipped};
-use super::Place;
+ghost use Rattle.receiver.specs.AsCoded.{exactly, movedTo, skipped};
+
+// A place in a block, before the window `next`. Before the window `known` the run was `ran`, and the windows since `since` have a good
+// level.
+pub(crate) struct Place {
+    pub next: usize,
+    pub known: usize,
+    pub ran: usize,
+    pub since: usize,
+}
 
 // Before a window, where the run is known.
 pub(crate) fn exact(next: usize, run: usize) -> Place

@@ -6,20 +6,31 @@ ghost use Prim.Native.Nat.{_+_, _<_, _≤_};
 ghost use lib.ListN.{length};
 ghost use lib.Seq.{sets};
 ghost use Rattle.control.specs.declared.Stage.the-variants.{Waiting};
-ghost use Rattle.control.specs.Control.{isControl, isStage};
+ghost use Rattle.control.specs.Ranges.{isControl, isStage};
 ghost use Rattle.control.specs.Rules.{numbers, reports};
-ghost use Rattle.receiver.specs.Windows.{progressed};
-ghost use Rattle.receiver.specs.Places.{IsSource, decisionsBy, IsPlace, soughtTo, Onward};
-use super::Place;
-use super::Progress;
-use super::Sought;
-use super::Turn;
+ghost use Rattle.receiver.specs.AsCoded.{IsSource, decisionsBy, IsPlace, soughtTo, Onward, reachedBy};
 use super::energy;
 use super::moves;
+use super::moves::Place;
 use super::seek;
+use super::seek::Sought;
 use control::Asked;
+use control::Control;
 use control::Event;
 use control::Stage;
+
+// Where a stage comes to: the place and the stage there, and the event of the last window.
+pub(crate) struct Turn {
+    pub place: Place,
+    pub stage: Stage,
+    pub event: Event,
+}
+
+// Where the reading of a block comes to: run and stage, and the count of events written.
+pub(crate) struct Reached {
+    pub control: Control,
+    pub count: usize,
+}
 
 // Reads a block from a run and a stage on, and writes its events. The run at the end is part of the next state.
 pub(crate) fn scan(
@@ -27,38 +38,38 @@ pub(crate) fn scan(
     samples: &[i16],
     weights: &[i16],
     events: &mut [u16],
-    run: u8,
-    first: Stage,
-) -> Progress
+    first: Control,
+) -> Reached
     requires { ⌜ IsSource (now weights) (now head) (now samples) ⌝ }
-    requires { ⌜ isControl (record { run = run; stage = first }) ≡ true ⌝ }
-    requires { ⌜ length (reports (record { run = run; stage = first }) (decisionsBy (now weights) (now head) (now samples))) ≤ length (now events) ⌝ }
-    ensures reached { λ r. ⌜ r ≡ progressed (record { run = run; stage = first })
+    requires { ⌜ isControl first ≡ true ⌝ }
+    requires { ⌜ length (reports first (decisionsBy (now weights) (now head) (now samples))) ≤ length (now events) ⌝ }
+    ensures reached { λ r. ⌜ r ≡ reachedBy first
         (decisionsBy (now (weights .entry)) (now (head .entry)) (now (samples .entry))) ⌝ }
-    ensures lent { λ r. ⌜ now (events .exit) ≡ sets (now (events .entry)) 0 (reports (record { run = run; stage = first })
+    ensures lent { λ r. ⌜ now (events .exit) ≡ sets (now (events .entry)) 0 (reports first
         (decisionsBy (now (weights .entry)) (now (head .entry)) (now (samples .entry)))) ⌝ }
 {
+    let run = first.run;
     let mut place = moves::exact(0, wide(run));
-    let mut stage = first;
+    let mut stage = first.stage;
     let mut count: usize = 0;
     while place.next < samples.len() {
-        let t = turn(head, samples, weights, place, stage);
+        let t = go_on(head, samples, weights, place, stage);
         let to = t.place;
         let then = t.stage;
         let event = t.event;
-        count = put(events, count, event);
+        count = put_event(events, count, event);
         place = to;
         stage = then;
     }
-    Progress {
-        run: narrow(seek::run_back(head, samples, weights, place)),
-        stage,
+    let last = narrow(seek::run_back(head, samples, weights, place));
+    Reached {
+        control: Control { run: last, stage },
         count,
     }
 }
 
 // Goes on with what the stage asks for: a search as far as `seek` goes, or a wait to its slot.
-fn turn(head: &[i16], samples: &[i16], weights: &[i16], place: Place, stage: Stage) -> Turn
+fn go_on(head: &[i16], samples: &[i16], weights: &[i16], place: Place, stage: Stage) -> Turn
     requires { ⌜ IsSource (now weights) (now head) (now samples) ⌝ }
     requires { ⌜ IsPlace (decisionsBy (now weights) (now head) (now samples)) place × (place .next < length (now samples)) ⌝ }
     requires { ⌜ isStage stage ≡ true ⌝ }
@@ -138,7 +149,7 @@ fn wait_for(
 }
 
 // Writes the event, if there is one, to the place `at`, and gives the place behind it.
-fn put(events: &mut [u16], at: usize, event: Event) -> usize
+fn put_event(events: &mut [u16], at: usize, event: Event) -> usize
     requires { ⌜ at + length (numbers event) ≤ length (now events) ⌝ }
     ensures count { λ r. ⌜ r ≡ at + length (numbers event) ⌝ }
     ensures lent { λ r. ⌜ now (events .exit) ≡ sets (now (events .entry)) at (numbers event) ⌝ }

@@ -2,11 +2,16 @@
 ghost use mathlib.Core.Path.{_≡_};
 ghost use Prim.Native.Nat.{_<_};
 ghost use lib.ListN.{length};
-ghost use Rattle.receiver.specs.Places.{IsSource, decisionsBy, IsPlace, runAt, missedAt, Seeks};
-use super::Place;
-use super::Sought;
+ghost use Rattle.receiver.specs.AsCoded.{IsSource, decisionsBy, IsPlace, runAt, missedAt, Seeks};
 use super::energy;
 use super::moves;
+use super::moves::Place;
+
+// How far a search went on, and whether its last window ends it.
+pub(crate) struct Sought {
+    pub place: Place,
+    pub found: bool,
+}
 
 // Goes on with a search that ends at run 32 with space above mark or, if `space` is false, with mark at least space. It stops behind the
 // first window of that tone or the first without a good level: behind the latter the next 31 windows can be passed over.

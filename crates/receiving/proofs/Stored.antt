@@ -29,5 +29,5 @@ module _ (n m : StateNumbers) (xs : List ℤ) (lent : List ℕ) {s : Receiver} {
   stored made read kept =
       ap₂ (λ (b : Answer) (k : StateNumbers). outcome b k now) (kept .0) (kept .1)
       ∙ ap
-      (λ (o : Outcome Receiver ℕ). record { number = o .number; count = o .count; state = nextNumbers (o .number) (o .state) n; lent = o .lent })
+      (λ (o : Outcome Receiver (List ℕ)). record { number = o .number; count = o .count; state = nextNumbers (o .number) (o .state) n; lent = o .lent })
       (read ∙ ap (λ (t : Receiver). blockOf t xs lent) made)

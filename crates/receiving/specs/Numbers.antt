@@ -41,9 +41,9 @@ abbrev pub nextNumbers : ℕ → Receiver → StateNumbers → StateNumbers
 nextNumbers number next n = cond (eqb number 0) (numbersOf next) n
 
 -- a block call on the numbers of a state
-abbrev pub blockNumbers : StateNumbers → List ℤ → List ℕ → Outcome StateNumbers ℕ
+abbrev pub blockNumbers : StateNumbers → List ℤ → List ℕ → Outcome StateNumbers (List ℕ)
 blockNumbers n xs lent =
-    let o : Outcome Receiver ℕ = blockOf (receiverOf n) xs lent in
+    let o : Outcome Receiver (List ℕ) = blockOf (receiverOf n) xs lent in
     record {
       number = o .number;
       count = o .count;

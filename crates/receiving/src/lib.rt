@@ -1,7 +1,7 @@
 // The receiver for programs in other languages, on numbers and slices. A state is handed in, and handed back, as the numbers of its
 // fields. A stage is four numbers: 0, 0, 0, 0 for searching, and 1 with wait, slot and byte for waiting.
 ghost use mathlib.Core.Path.{_≡_};
-ghost use Rattle.calls.specs.Outcome.{answer, outcome};
+ghost use Rattle.calls.specs.Outcome.{answerOf, outcome};
 ghost use Rattle.receiver.specs.Calls.{openOf};
 ghost use Rattle.receiving.specs.Numbers.{stageOf, stageNumbers, stateNumbers, numbersOf, receiverOf, nextNumbers, blockNumbers};
 use control::Stage;
@@ -38,7 +38,7 @@ pub extern "C" fn modem_receiver_block(
     events: &mut [u16],
     count: &mut usize,
 ) -> u8
-    ensures { λ r. ⌜ outcome (answer r (now (count .exit))) (stateNumbers (now (band .exit)) (now (window .exit)) (now (run .exit)) (now (stage .exit))) (now (events .exit))
+    ensures { λ r. ⌜ outcome (answerOf r (now (count .exit))) (stateNumbers (now (band .exit)) (now (window .exit)) (now (run .exit)) (now (stage .exit))) (now (events .exit))
         ≡ blockNumbers (stateNumbers (now (band .entry)) (now (window .entry)) (now (run .entry)) (now (stage .entry))) (now (samples .entry)) (now (events .entry)) ⌝ }
 {
     let receiver = receiver_of(*band, *window, *run, *stage);
@@ -57,7 +57,7 @@ pub extern "C" fn modem_receiver_block_lent(
     events: &mut [u16],
     count: &mut usize,
 ) -> u8
-    ensures { λ r. ⌜ outcome (answer r (now (count .exit))) (stateNumbers (now (band .exit)) (now (window .exit)) (now (run .exit)) (now (stage .exit))) (now (events .exit))
+    ensures { λ r. ⌜ outcome (answerOf r (now (count .exit))) (stateNumbers (now (band .exit)) (now (window .exit)) (now (run .exit)) (now (stage .exit))) (now (events .exit))
         ≡ blockNumbers (stateNumbers (now (band .entry)) (now (window .entry)) (now (run .entry)) (now (stage .entry))) (now (samples .entry)) (now (events .entry)) ⌝ }
 {
     let state = receiver_of(*band, *window, *run, *stage);
@@ -85,7 +85,7 @@ fn store_reading(
     stage: &mut [u8; 4],
     count: &mut usize,
 ) -> u8
-    ensures { λ r. ⌜ (answer r (now (count .exit)) ≡ reading .answer)
+    ensures { λ r. ⌜ (answerOf r (now (count .exit)) ≡ reading .answer)
         × (stateNumbers (now (band .exit)) (now (window .exit)) (now (run .exit)) (now (stage .exit))
         ≡ nextNumbers (reading .answer .number) (reading .receiver) (stateNumbers (now (band .entry)) (now (window .entry)) (now (run .entry)) (now (stage .entry)))) ⌝ }
 {

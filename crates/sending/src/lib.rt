@@ -1,7 +1,7 @@
 // The sine and the transmitter for programs in other languages, on numbers and slices. A state is handed in, and handed back, as
 // the numbers of its fields.
 ghost use mathlib.Core.Path.{_≡_};
-ghost use Rattle.calls.specs.Outcome.{answer, outcome};
+ghost use Rattle.calls.specs.Outcome.{answerOf, outcome};
 ghost use Rattle.sine.specs.Sine.{S, C};
 ghost use Rattle.transmitter.specs.Calls.{openOf, idleOf, charactersOf};
 ghost use Rattle.sending.specs.Numbers.{transmitter, opened};
@@ -42,7 +42,7 @@ pub extern "C" fn modem_transmitter_idle(
     out: &mut [i16],
     count: &mut usize,
 ) -> u8
-    ensures { λ r. ⌜ outcome (answer r (now (count .exit))) (transmitter (now (band .exit)) (now (phase .exit))) (now (out .exit))
+    ensures { λ r. ⌜ outcome (answerOf r (now (count .exit))) (transmitter (now (band .exit)) (now (phase .exit))) (now (out .exit))
         ≡ idleOf (transmitter (now (band .entry)) (now (phase .entry))) (now (out .entry)) ⌝ }
 {
     let t = Transmitter {
@@ -61,7 +61,7 @@ pub extern "C" fn modem_transmitter_characters(
     out: &mut [i16],
     count: &mut usize,
 ) -> u8
-    ensures { λ r. ⌜ outcome (answer r (now (count .exit))) (transmitter (now (band .exit)) (now (phase .exit))) (now (out .exit))
+    ensures { λ r. ⌜ outcome (answerOf r (now (count .exit))) (transmitter (now (band .exit)) (now (phase .exit))) (now (out .exit))
         ≡ charactersOf (transmitter (now (band .entry)) (now (phase .entry))) (now (bytes .entry)) (now (out .entry)) ⌝ }
 {
     let t = Transmitter {
@@ -73,7 +73,7 @@ pub extern "C" fn modem_transmitter_characters(
 
 // Stores what a sending call answered, and gives its number.
 fn store(sent: Sent, band: &mut u8, phase: &mut u16, count: &mut usize) -> u8
-    ensures { λ r. ⌜ (answer r (now (count .exit)) ≡ sent .answer)
+    ensures { λ r. ⌜ (answerOf r (now (count .exit)) ≡ sent .answer)
         × (transmitter (now (band .exit)) (now (phase .exit)) ≡ sent .transmitter) ⌝ }
 {
     let next = sent.transmitter;

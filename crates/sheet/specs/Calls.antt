@@ -1,52 +1,53 @@
--- The sheet calls: document 01, "Sheet and programs" and "Refused calls". A number is given if and only if its condition is the
--- first that holds.
+-- The sheet calls: document 01, "Sheet and programs" and "Refused calls". Each has its table of refusals, in the order of the document's.
 -- Assumes nothing.
-use mathlib.Core.Bool.{Bool, cond, not}
-use mathlib.Core.List.{List}
+use mathlib.Core.Bool.{Bool, not}
+use mathlib.Core.List.{List, [], _∷_}
 use Prim.Native.Nat.{ℕ}
-use lib.Dec.{ltb, eqb}
+use lib.Dec.{ltb}
 use lib.IntN.{ℤ}
 use lib.ListN.{length}
-use Rattle.calls.specs.Outcome.{Outcome, refused, accepted}
+use Rattle.calls.specs.Refusals.{Test, test}
+use Rattle.calls.specs.Outcome.{Outcome, unlessRefused, accepted}
 use Rattle.tones.specs.Bands.{isBand}
-use Rattle.tones.specs.Samples.{areSamples}
+use Rattle.tones.specs.Samples.{areSamples, mostSamples}
 use Rattle.sheet.specs.Text.{sheetOf}
 use Rattle.sheet.specs.Parse.{isSheet, bandIn, samplesOf}
 
+-- the most bytes of a sheet: "Refused calls", number 6
+abbrev pub mostBytes : ℕ
+mostBytes = 65536
+
 -- ---- reading; the outcome's state is the band, and 0 in a refusal
 
--- 1, 3, 5, 4, or none, for a sheet of `count` samples, all of them in range if `sound`
-abbrev pub samplesNumber : (band count : ℕ) (sound : Bool) (room : ℕ) → ℕ
-samplesNumber band count sound room =
-    cond (not (isBand band)) 1
-    (cond (ltb 16384 count) 3
-    (cond (not sound) 5
-    (cond (ltb room count) 4 0)))
+-- a text that is a sheet of `count` samples, all of them in range if `sound`
+abbrev pub samplesTests : (band count : ℕ) (sound : Bool) (room : ℕ) → List Test
+samplesTests band count sound room =
+    test 1 (not (isBand band))
+    ∷ test 3 (ltb mostSamples count)
+    ∷ test 5 (not sound)
+    ∷ test 4 (ltb room count)
+    ∷ []
 
--- the form of the whole text comes before these, and its length before the form
-unfoldable pub readNumber : List ℕ → ℕ → ℕ
-readNumber text room =
-    cond (ltb 65536 (length text)) 6
-    (cond (not (isSheet text)) 7
-    (samplesNumber (bandIn text) (length (samplesOf text)) (areSamples (samplesOf text)) room))
+-- any text: its length and its form come before these
+abbrev pub readTests : (text : List ℕ) (room : ℕ) → List Test
+readTests text room =
+    test 6 (ltb mostBytes (length text))
+    ∷ test 7 (not (isSheet text))
+    ∷ samplesTests (bandIn text) (length (samplesOf text)) (areSamples (samplesOf text)) room
 
-unfoldable pub readOf : List ℕ → List ℤ → Outcome ℕ ℤ
-readOf text lent =
-    let n : ℕ = readNumber text (length lent) in
-    cond (eqb n 0) (accepted (bandIn text) (samplesOf text) lent) (refused n 0 lent)
+unfoldable pub readOf : List ℕ → List ℤ → Outcome ℕ (List ℤ)
+readOf text lent = unlessRefused (readTests text (length lent)) 0 lent (accepted (bandIn text) (samplesOf text) lent)
 
 -- ---- writing; there is no state
 
--- 1, 3, 5, 6, 4, or none
-unfoldable pub writeNumber : ℕ → List ℤ → ℕ → ℕ
-writeNumber band samples room =
-    cond (not (isBand band)) 1
-    (cond (ltb 16384 (length samples)) 3
-    (cond (not (areSamples samples)) 5
-    (cond (ltb 65536 (length (sheetOf band samples))) 6
-    (cond (ltb room (length (sheetOf band samples))) 4 0))))
+abbrev pub writeTests : (band : ℕ) (samples : List ℤ) (room : ℕ) → List Test
+writeTests band samples room =
+    test 1 (not (isBand band))
+    ∷ test 3 (ltb mostSamples (length samples))
+    ∷ test 5 (not (areSamples samples))
+    ∷ test 6 (ltb mostBytes (length (sheetOf band samples)))
+    ∷ test 4 (ltb room (length (sheetOf band samples)))
+    ∷ []
 
-unfoldable pub writeOf : ℕ → List ℤ → List ℕ → Outcome Unit ℕ
-writeOf band samples lent =
-    let n : ℕ = writeNumber band samples (length lent) in
-    cond (eqb n 0) (accepted tt (sheetOf band samples) lent) (refused n tt lent)
+unfoldable pub writeOf : ℕ → List ℤ → List ℕ → Outcome Unit (List ℕ)
+writeOf band samples lent = unlessRefused (writeTests band samples (length lent)) tt lent (accepted tt (sheetOf band samples) lent)

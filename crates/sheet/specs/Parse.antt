@@ -2,18 +2,16 @@
 -- Assumes nothing.
 use mathlib.Core.Bool.{Bool, true, false, cond, _&&_}
 use mathlib.Core.List.{List, [], _∷_}
-use Prim.Native.Nat.{ℕ, _+_, _-_, _*_, _<_}
+use Prim.Native.Nat.{ℕ, _+_, _-_, _*_}
 use lib.Dec.{ltb, eqb}
 use lib.IntN.{ℤ, pos, negℤ}
-use lib.ListN.{length, getD, drop}
+use lib.ListN.{getD, drop}
 use Rattle.calls.specs.Runs.{after, gives}
-use Rattle.tones.specs.Samples.{areSamples}
 use Rattle.digits.specs.Numbers.{isDigit}
 use Rattle.text.specs.Bytes.{startsWith}
 use Rattle.sheet.specs.Text.{headOf}
 use Rattle.sheet.specs.declared.Line.{Line}
 use Rattle.sheet.specs.declared.Line.the-variants.{Start, Minus, Zero, Number, Bad}
-use Rattle.sheet.specs.declared.Seen.{Seen}
 
 -- ---- the lines of samples: `0`, or an optional minus and 1 to 4 digits not beginning with 0
 
@@ -70,26 +68,3 @@ bandIn text = getD text 5 0 - 48
 
 abbrev pub samplesOf : List ℕ → List ℤ
 samplesOf text = samplesIn Start (drop 14 text)
-
--- ---- what the code of `sheet_reader` asks and keeps
-
--- a number of at most four digits
-abbrev pub Small : Line → Type 0
-Small Start = Unit
-Small Minus = Unit
-Small Zero = Unit
-Small (Number negative size) = size < 10000
-Small Bad = Unit
-
--- a first look at the lines, byte by byte: where it stands, how many samples there are, and whether all are in range
-abbrev pub seenNext : Seen → ℕ → Seen
-seenNext seen byte =
-    record {
-      line = next (seen .line) byte;
-      count = seen .count + length (sampleAt (seen .line) byte);
-      sound = seen .sound && areSamples (sampleAt (seen .line) byte);
-    }
-
-abbrev pub seenOf : List ℕ → Seen
-seenOf text =
-    record { line = lineAfter Start (drop 14 text); count = length (samplesOf text); sound = areSamples (samplesOf text) }

@@ -1,7 +1,10 @@
-// What a sheet is: a band and its samples as text. Here are the types of its definitions and the lines above the samples;
-// `sheet_reader` reads sheets, and `sheet_writer` writes them.
+// What a sheet is: a band and its samples as text. Here are its greatest length, the places of a reading, and the lines above the
+// samples; `sheet_reader` reads sheets, and `sheet_writer` writes them.
 ghost use mathlib.Core.Path.{_≡_};
 ghost use Rattle.sheet.specs.Text.{headOf};
+
+// The most bytes of a sheet.
+pub const MOST_BYTES: usize = 65536;
 
 // Where the reading stands in a sample's line: before its first byte, behind a minus, behind the line's only 0, in a number,
 // or behind something that no line has.
@@ -11,14 +14,6 @@ pub enum Line {
     Zero,
     Number { negative: bool, size: u16 },
     Bad,
-}
-
-// What a first look at the lines finds: where the reading stands behind them, how many samples they have, and whether all of
-// these are in range.
-pub struct Seen {
-    pub line: Line,
-    pub count: usize,
-    pub sound: bool,
 }
 
 // The three lines above the samples.

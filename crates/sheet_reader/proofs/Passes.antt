@@ -20,10 +20,11 @@ use Rattle.tones.specs.Samples.{areBetween, areSamples}
 use Rattle.tones.proofs.Samples.{samples-append}
 use Rattle.digits.specs.Numbers.{isDigit}
 use Rattle.digits.proofs.Numbers.{digit-high}
-use Rattle.sheet.specs.Parse.{next, sampleOf, sampleAt, lineAfter, samplesIn, samplesOf, Small, seenNext, seenOf}
+use Rattle.sheet.specs.Parse.{next, sampleOf, sampleAt, lineAfter, samplesIn, samplesOf}
 use Rattle.sheet.specs.declared.Line.{Line}
 use Rattle.sheet.specs.declared.Line.the-variants.{Start, Minus, Zero, Number, Bad}
-use Rattle.sheet.specs.declared.Seen.{Seen}
+use Rattle.sheet_reader.specs.AsCoded.{Small, seenNext, seenOf}
+use Rattle.sheet_reader.specs.declared.reader.Seen.{Seen}
 
 -- ---- one byte
 

@@ -1,8 +1,9 @@
 // One line of a sample, byte by byte.
 ghost use mathlib.Core.Path.{_≡_};
 ghost use Prim.Native.Nat.{_<_};
-ghost use Rattle.sheet.specs.Parse.{next, sampleOf, isStart, Small};
+ghost use Rattle.sheet.specs.Parse.{next, sampleOf, isStart};
 ghost use Rattle.sheet.specs.declared.Line.the-variants.{Start, Minus, Zero, Number};
+ghost use Rattle.sheet_reader.specs.AsCoded.{Small};
 use sheet::Line;
 
 // Where the reading stands after one more byte.

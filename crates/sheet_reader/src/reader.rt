@@ -3,17 +3,26 @@ ghost use mathlib.Core.Path.{_≡_};
 ghost use Prim.Native.Nat.{_+_, _≤_, _<_};
 ghost use lib.ListN.{length};
 ghost use lib.Seq.{sets};
-ghost use Rattle.sheet.specs.Parse.{sampleAt, isHeaded, samplesOf, Small, seenNext, seenOf};
-ghost use Rattle.sheet.specs.Calls.{samplesNumber, readNumber};
+ghost use Rattle.calls.specs.Refusals.{firstOf};
+ghost use Rattle.sheet.specs.Parse.{sampleAt, isHeaded, samplesOf};
+ghost use Rattle.sheet.specs.Calls.{mostBytes, samplesTests, readTests};
+ghost use Rattle.sheet_reader.specs.AsCoded.{Small, seenNext, seenOf};
 use super::parse;
 use sheet::Line;
-use sheet::Seen;
+
+// What a first look at the lines finds: where the reading stands behind them, how many samples they have, and whether all of
+// these are in range.
+pub(crate) struct Seen {
+    pub(crate) line: Line,
+    pub(crate) count: usize,
+    pub(crate) sound: bool,
+}
 
 // The number of the first reason to refuse a reading into `room` places, or 0.
 pub(crate) fn refusal(text: &[u8], room: usize) -> u8
-    ensures { λ r. ⌜ r ≡ readNumber (now (text .entry)) room ⌝ }
+    ensures { λ r. ⌜ r ≡ firstOf (readTests (now (text .entry)) room) ⌝ }
 {
-    if 65536 < text.len() {
+    if sheet::MOST_BYTES < text.len() {
         return 6;
     }
     if !is_headed(text) {
@@ -29,12 +38,12 @@ pub(crate) fn refusal(text: &[u8], room: usize) -> u8
 
 // The number for a text that has the form of a sheet.
 fn samples_number(band: u8, count: usize, sound: bool, room: usize) -> u8
-    ensures { λ r. ⌜ r ≡ samplesNumber band count sound room ⌝ }
+    ensures { λ r. ⌜ r ≡ firstOf (samplesTests band count sound room) ⌝ }
 {
     if !tones::is_band(band) {
         return 1;
     }
-    if 16384 < count {
+    if tones::MOST_SAMPLES < count {
         return 3;
     }
     if !sound {
@@ -63,7 +72,7 @@ fn is_headed(text: &[u8]) -> bool
 
 // The first pass over the lines behind the first three: what a refusal depends on.
 fn look(text: &[u8]) -> Seen
-    requires { ⌜ length (now text) ≤ 65536 ⌝ }
+    requires { ⌜ length (now text) ≤ mostBytes ⌝ }
     ensures { λ r. ⌜ r ≡ seenOf (now (text .entry)) ⌝ }
 {
     let mut seen = Seen {
@@ -82,7 +91,7 @@ fn look(text: &[u8]) -> Seen
 // One byte more.
 fn look_on(seen: Seen, byte: u8) -> Seen
     requires { ⌜ Small (seen .line) ⌝ }
-    requires { ⌜ seen .count < 65536 ⌝ }
+    requires { ⌜ seen .count < mostBytes ⌝ }
     ensures { λ r. ⌜ r ≡ seenNext seen byte ⌝ }
 {
     let before = seen.line;

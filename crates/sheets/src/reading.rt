@@ -56,7 +56,7 @@ fn zeros() -> [u8; 65537]
     ensures { λ r. ⌜ 65537 ≡ length r ⌝ }
 {
     let mut text = [10u8; 65537];
-    text::put(&mut text, 0, b"band\n1\nsample\n");
+    text::put_bytes(&mut text, 0, b"band\n1\nsample\n");
     let mut i: usize = 14;
     while i < 65537 {
         text[i] = 48;
@@ -80,8 +80,8 @@ fn read_each(head: &[u8], lines: &[u8]) {
 
 fn read_lines(head: &[u8], lines: &[u8]) {
     let mut text = [0u8; 64];
-    text::put(&mut text, 0, head);
-    text::put(&mut text, head.len(), lines);
+    text::put_bytes(&mut text, 0, head);
+    text::put_bytes(&mut text, head.len(), lines);
     // Always so here; it spares a proof.
     if head.len() <= 14 {
         if lines.len() <= 50 {

@@ -6,7 +6,7 @@ ghost use Rattle.digits.specs.Numbers.{decimal};
 ghost use Rattle.text.specs.Bytes.{startsWith};
 
 // Copies bytes to a buffer from the place `at` on. Those for which there is no place are left out.
-pub fn put(out: &mut [u8], at: usize, bytes: &[u8])
+pub fn put_bytes(out: &mut [u8], at: usize, bytes: &[u8])
     ensures { λ r. ⌜ now (out .exit) ≡ sets (now (out .entry)) at (now (bytes .entry)) ⌝ }
 {
     let mut place = at;
@@ -28,7 +28,7 @@ pub fn put_decimal(out: &mut [u8], at: usize, n: u16) -> usize
     let digits = digits::decimal(n);
     let bytes = digits.bytes;
     let len = digits.len;
-    put(out, at, &bytes[..len]);
+    put_bytes(out, at, &bytes[..len]);
     len
 }
 

@@ -9,6 +9,9 @@ pub struct Tones {
     pub mark: u16,
 }
 
+// The most samples of a block, and of a sheet.
+pub const MOST_SAMPLES: usize = 16384;
+
 // One row a band, from band 1 on.
 const BANDS: [Tones; 2] = [
     Tones {

@@ -12,7 +12,7 @@ use lib.ListN.{length, getD}
 use Rattle.calls.specs.Outcome.{Outcome, refused}
 use Rattle.calls.specs.Lists.{stateAfter}
 use Rattle.calls.proofs.Runs.{RunLaws}
-use Rattle.calls.proofs.Lists.{IsRun, refused-run, accepted-run, joined-state, joined-front}
+use Rattle.calls.proofs.Lists.{one-keeps, IsRun, refused-run, accepted-run, joined-state, joined-front}
 use Rattle.tones.specs.Bands.{isBand, tonesOf}
 use Rattle.transmitter.specs.declared.Transmitter.{Transmitter}
 use Rattle.transmitter.specs.Samples.{send, phaseAfter, bitSteps}
@@ -33,15 +33,15 @@ sending-laws =
     }
 
 -- each call is one
-abbrev CallRuns : Call → Transmitter → Outcome Transmitter ℤ → Type 0
-CallRuns c = IsRun afterBits samplesOf sending-laws (bitsOf c)
+abbrev CallRuns : Call → Transmitter → Outcome Transmitter (List ℤ) → Type 0
+CallRuns c = IsRun one-keeps sending-laws (bitsOf c)
 
 module _ (c : Call) (s : Transmitter) (lent : List ℤ) where
   refuses : (n : ℕ) → CallRuns c s (refused (suc n) s lent)
-  refuses n = refused-run afterBits samplesOf sending-laws n s (bitsOf c) lent
+  refuses n = refused-run one-keeps sending-laws n s (bitsOf c) lent
 
   sends : CallRuns c s (sent s (bitsOf c) lent)
-  sends = accepted-run afterBits samplesOf sending-laws s (bitsOf c) lent
+  sends = accepted-run one-keeps sending-laws s (bitsOf c) lent
 
 call-runs : (s : Transmitter) (c : Call) → CallRuns c s (callOf s c)
 call-runs s (idle lent) =
@@ -62,7 +62,7 @@ steps-kept s steps h =
 
 -- the samples written are those of the bits of the accepted calls
 pub samples-written : (s : Transmitter) (calls : List Call) → samplesWritten s calls ≡ send (s .phase) (stepsSent s calls)
-samples-written s calls = joined-front afterBits samplesOf sending-laws callOf bitsOf call-runs calls s
+samples-written s calls = joined-front one-keeps sending-laws callOf bitsOf call-runs s calls
 
 pub continuous : (s : Transmitter) (calls : List Call) → Continuous s calls
 continuous s calls =
@@ -75,4 +75,4 @@ continuous s calls =
     }
   where
     state : stateAfter callOf s calls ≡ record { band = s .band; phase = phaseAfter (s .phase) (stepsSent s calls) }
-    state = joined-state afterBits samplesOf sending-laws callOf bitsOf call-runs calls s
+    state = joined-state one-keeps sending-laws callOf bitsOf call-runs s calls

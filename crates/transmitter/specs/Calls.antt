@@ -1,13 +1,13 @@
--- The transmitter's calls: document 01, "Transmitter" and "Refused calls". A number is given if and only if its condition is
--- the first that holds.
+-- The transmitter's calls: document 01, "Transmitter" and "Refused calls". Each has its table of refusals, in the order of the document's.
 -- Assumes nothing.
 use mathlib.Core.Bool.{Bool, cond, not, _&&_}
-use mathlib.Core.List.{List}
+use mathlib.Core.List.{List, [], _∷_}
 use Prim.Native.Nat.{ℕ, _*_}
 use lib.Dec.{ltb}
 use lib.IntN.{ℤ}
 use lib.ListN.{length}
-use Rattle.calls.specs.Outcome.{Outcome, refused, accepted}
+use Rattle.calls.specs.Refusals.{Test, test, firstOf}
+use Rattle.calls.specs.Outcome.{Outcome, unlessRefused, accepted}
 use Rattle.tones.specs.Bands.{isBand, tonesOf}
 use Rattle.transmitter.specs.declared.Transmitter.{Transmitter}
 use Rattle.transmitter.specs.declared.Opened.{Opened}
@@ -18,8 +18,11 @@ abbrev pub fresh : ℕ → Transmitter
 fresh band = record { band = band; phase = 0 }
 
 -- opening: the fresh state of the band, or 1 and the fresh state of band 1
+abbrev pub openTests : ℕ → List Test
+openTests band = test 1 (not (isBand band)) ∷ []
+
 unfoldable pub openOf : ℕ → Opened
-openOf band = cond (isBand band) (record { number = 0; transmitter = fresh band }) (record { number = 1; transmitter = fresh 1 })
+openOf band = record { number = firstOf (openTests band); transmitter = fresh (cond (isBand band) band 1) }
 
 -- the ranges of a state: a known band, and phase 0 to 1,919
 unfoldable pub inRange : Transmitter → Bool
@@ -33,25 +36,27 @@ abbrev pub afterBits : Transmitter → List ℕ → Transmitter
 afterBits s bits = record { band = s .band; phase = phaseBits (tonesOf (s .band)) (s .phase) bits }
 
 -- a call that is accepted and sends bits
-abbrev pub sent : Transmitter → List ℕ → List ℤ → Outcome Transmitter ℤ
+abbrev pub sent : Transmitter → List ℕ → List ℤ → Outcome Transmitter (List ℤ)
 sent s bits lent = accepted (afterBits s bits) (samplesOf s bits) lent
 
--- idle: 2, 4, or three mark bits
-unfoldable pub idleOf : Transmitter → List ℤ → Outcome Transmitter ℤ
-idleOf s lent =
-    cond (not (inRange s))
-    (refused 2 s lent)
-    (cond (ltb (length lent) 96)
-    (refused 4 s lent)
-    (sent s idleBits lent))
+-- idle: 2 or 4, or three mark bits
+abbrev pub idleTests : (s : Transmitter) (places : ℕ) → List Test
+idleTests s places = test 2 (not (inRange s)) ∷ test 4 (ltb places 96) ∷ []
 
--- characters: 2, 3, 4, or the bits of the bytes
-unfoldable pub charactersOf : Transmitter → List ℕ → List ℤ → Outcome Transmitter ℤ
-charactersOf s bytes lent =
-    cond (not (inRange s))
-    (refused 2 s lent)
-    (cond (ltb 100 (length bytes))
-    (refused 3 s lent)
-    (cond (ltb (length lent) (320 * length bytes))
-    (refused 4 s lent)
-    (sent s (charactersBits bytes) lent)))
+unfoldable pub idleOf : Transmitter → List ℤ → Outcome Transmitter (List ℤ)
+idleOf s lent = unlessRefused (idleTests s (length lent)) s lent (sent s idleBits lent)
+
+-- the most bytes of one call
+abbrev pub mostCharacters : ℕ
+mostCharacters = 100
+
+-- characters: 2, 3 or 4, or the bits of the bytes
+abbrev pub charactersTests : (s : Transmitter) (characters places : ℕ) → List Test
+charactersTests s characters places =
+    test 2 (not (inRange s))
+    ∷ test 3 (ltb mostCharacters characters)
+    ∷ test 4 (ltb places (320 * characters))
+    ∷ []
+
+unfoldable pub charactersOf : Transmitter → List ℕ → List ℤ → Outcome Transmitter (List ℤ)
+charactersOf s bytes lent = unlessRefused (charactersTests s (length bytes) (length lent)) s lent (sent s (charactersBits bytes) lent)

@@ -22,7 +22,7 @@ pub data Call : Type 0 where
   characters : List ℕ → List ℤ → Call
 
 -- the outcome of a call, as its contract has it
-abbrev pub callOf : Transmitter → Call → Outcome Transmitter ℤ
+abbrev pub callOf : Transmitter → Call → Outcome Transmitter (List ℤ)
 callOf s (idle lent) = idleOf s lent
 callOf s (characters bytes lent) = charactersOf s bytes lent
 

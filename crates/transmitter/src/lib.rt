@@ -1,14 +1,18 @@
 // The transmitter: opening, idle and characters. Samples go to the front of a caller's buffer, document 01's lent output; the
 // state goes in and comes back by value.
 ghost use mathlib.Core.Path.{_≡_};
+ghost use Rattle.calls.specs.Refusals.{firstOf};
 ghost use Rattle.calls.specs.Outcome.{outcome};
-ghost use Rattle.transmitter.specs.Calls.{openOf, inRange, idleOf, charactersOf};
+ghost use Rattle.transmitter.specs.Calls.{openOf, inRange, idleTests, idleOf, charactersTests, charactersOf};
 
 mod bits;
 
 use crate::bits::put_bits;
 use crate::bits::put_characters;
 use calls::Answer;
+
+// The most bytes of one call.
+pub const MOST_CHARACTERS: usize = 100;
 
 // A band, and the phase of the next sample in 1,920ths of a cycle.
 pub struct Transmitter {
@@ -50,11 +54,9 @@ impl Transmitter {
     pub fn idle(self, out: &mut [i16]) -> Sent
         ensures { λ r. ⌜ outcome (r .answer) (r .transmitter) (now (out .exit)) ≡ idleOf self (now (out .entry)) ⌝ }
     {
-        if !self.in_range() {
-            return self.refused(2);
-        }
-        if out.len() < 96 {
-            return self.refused(4);
+        let number = self.idle_refusal(out.len());
+        if number != 0 {
+            return self.refused(number);
         }
         let band = self.band;
         let tones = tones::tones_of(band);
@@ -74,22 +76,47 @@ impl Transmitter {
         ensures { λ r. ⌜ outcome (r .answer) (r .transmitter) (now (out .exit))
             ≡ charactersOf self (now (bytes .entry)) (now (out .entry)) ⌝ }
     {
-        if !self.in_range() {
-            return self.refused(2);
-        }
-        if 100 < bytes.len() {
-            return self.refused(3);
-        }
-        let count = 320 * bytes.len();
-        if out.len() < count {
-            return self.refused(4);
+        let number = self.characters_refusal(bytes.len(), out.len());
+        if number != 0 {
+            return self.refused(number);
         }
         let band = self.band;
         let tones = tones::tones_of(band);
         let phase = put_characters(out, tones, self.phase, bytes);
         Sent {
             transmitter: Transmitter { band, phase },
-            answer: Answer { number: 0, count },
+            answer: Answer {
+                number: 0,
+                count: 320 * bytes.len(),
+            },
+        }
+    }
+
+    // The number of the first reason to refuse an idle with so many places lent, or 0.
+    fn idle_refusal(self, places: usize) -> u8
+        ensures { λ r. ⌜ r ≡ firstOf (idleTests self places) ⌝ }
+    {
+        if !self.in_range() {
+            2
+        } else if places < 96 {
+            4
+        } else {
+            0
+        }
+    }
+
+    // The same for so many characters.
+    fn characters_refusal(self, characters: usize, places: usize) -> u8
+        ensures { λ r. ⌜ r ≡ firstOf (charactersTests self characters places) ⌝ }
+    {
+        if !self.in_range() {
+            2
+        } else if MOST_CHARACTERS < characters {
+            3
+        } else if places < 320 * characters {
+            4
+        } else {
+            0
         }
     }
 

@@ -3,8 +3,9 @@
 //! `states` what it goes on from, `refused` what it refuses in between and `met`
 //! what it gave. `process` runs the programs. `sheets` and `forms` have sheets and
 //! almost sheets, `lengths` how long they are, and `disturbed` what the program of
-//! that name prints.
+//! that name prints. `declared` reads what the files of a crate say.
 
+pub mod declared;
 pub mod disturbed;
 pub mod forms;
 pub mod lengths;

@@ -2,7 +2,7 @@
 -- Assumes nothing.
 use mathlib.Core.Path.{sym, _∙_}
 use borrow.Author.Needs.{needs}
-use Rattle.control.specs.Control.{isStage}
+use Rattle.control.specs.Ranges.{isStage}
 use Rattle.control.proofs.is_stage.Statement.{statement}
 use Rattle.control.proofs.is_stage.Tie as tie
 

@@ -40,12 +40,12 @@ use denote.Exit.{yes}
 use denote.Triple.Walked.{says, Stays, stay-ref, stay-none-slice, gave-slice, walkOf, goes-ref, goes-none-slice, goes-gave-slice, ends-at}
 use Rattle.receiver.specs.declared.Receiver.{Receiver}
 use Rattle.receiver.specs.declared.Reading.{Reading}
-use Rattle.receiver.proofs.Receiver.block as core
-use Rattle.receiver.proofs.Receiver.block.Symbol as core-code
-use Rattle.receiver.proofs.Receiver.block.Met as core-proof
 use Rattle.lent.proofs.Walk.{Said, state, answer, reading, rowOf, val, Fits, typed, knows, had, spelt, gives}
 use Rattle.lent.proofs.Walk.{slice-val, Shared, Tokens, twice, last-list, local, puts}
 use Rattle.lent.proofs.Meeting.{calls, meets}
+use Rattle.lent.proofs.called as core
+use Rattle.lent.proofs.called.Symbol as core-code
+use Rattle.lent.proofs.called.Met as core-proof
 use Rattle.lent.proofs.block as self
 use Rattle.lent.proofs.block.Key as key
 use Rattle.lent.proofs.block.Statement as stated
@@ -170,7 +170,7 @@ block-spec 𝓤 H 𝓜 𝓖 𝓡 =
     let W : Given 𝓤 H (𝓖 .A) = givenOf 𝓤 H 𝓜 𝓖 in
     meets 𝓤 H 𝓜 𝓖 𝓡 self.ended stayed (self.clauses 𝓤 H (𝓖 .A) (𝓜 .mem) (𝓡 .run))
     code.env key.name code.function (code.unfolded 𝓤 H 𝓜 𝓡)
-    core-code.name core-code.routine code.calls-receiver·Receiver·block (Core 𝓤 H (𝓖 .A) (𝓜 .mem) (𝓡 .run)) (core-proof.met 𝓤 H 𝓜 𝓖 𝓡) (
+    core-code.name core-code.routine code.calls-lent·called (Core 𝓤 H (𝓖 .A) (𝓜 .mem) (𝓡 .run)) (core-proof.met 𝓤 H 𝓜 𝓖 𝓡) (
       goes-ref 𝓤 H (𝓖 .A) W 3 0 tt (plain (λ _. rowOf state)),
       (goes-none-slice 𝓤 H (𝓖 .A) W 3 (1 ∷ []) tt (plain (λ _. i16)) yes, (goes-gave-slice 𝓤 H (𝓖 .A) W 3 2 tt (plain (λ _. u16)), tt)),
     )

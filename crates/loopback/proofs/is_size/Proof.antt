@@ -5,15 +5,16 @@ use mathlib.Core.Bool.{_&&_}
 use mathlib.Core.Logic.{⊎-elim}
 use borrow.Author.Tests.{le-leb, lt-leb}
 use lib.Dec.{leb}
+use Rattle.transmitter.specs.Calls.{mostCharacters}
 use Rattle.loopback.proofs.is_size.Statement.{statement}
 use Rattle.loopback.proofs.is_size.Tie as tie
 
 -- the first two tests
-both : (c : tie.Joined1) → c .if1 .if2 ≡ (leb (c .before .args .characters) 100 && leb 1 (c .before .args .size))
+both : (c : tie.Joined1) → c .if1 .if2 ≡ (leb (c .before .args .characters) mostCharacters && leb 1 (c .before .args .size))
 both c =
     ⊎-elim
-    (λ w. rw (w .1, le-leb (c .before .args .characters) 100 (w .0 .taken)))
-    (λ w. rw (w .1, lt-leb (c .before .args .characters) 100 (w .0 .left)))
+    (λ w. rw (w .1, le-leb (c .before .args .characters) mostCharacters (w .0 .taken)))
+    (λ w. rw (w .1, lt-leb (c .before .args .characters) mostCharacters (w .0 .left)))
     (c .if1 .came)
 
 returns : tie.Need-returns

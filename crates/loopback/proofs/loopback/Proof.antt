@@ -3,7 +3,7 @@
 use mathlib.Core.Path.{_≡_, sym, ap, ap₂, _∙_}
 use mathlib.Core.Bool.{true}
 use mathlib.Core.List.{List, _++_}
-use Prim.Native.Nat.{ℕ}
+use Prim.Native.Nat.{ℕ, _-_}
 use native.Mathlib.Omega.{arith}
 use borrow.Author.Needs.{needs}
 use lib.IntN.{ℤ}
@@ -13,7 +13,8 @@ use Rattle.integers.specs.Near.{altered}
 use Rattle.integers.specs.Sums.{Bounded}
 use Rattle.integers.proofs.Near.{length-altered}
 use Rattle.integers.proofs.Lists.{sets-front}
-use Rattle.calls.specs.Outcome.{Outcome, outcome, refused, accepted}
+use Rattle.calls.specs.Refusals.{firstOf}
+use Rattle.calls.specs.Outcome.{Outcome, outcome, accepted, over}
 use Rattle.calls.proofs.Answers.{given-count, given-front, given-part, given-room}
 use Rattle.tones.specs.Bands.{tonesOf}
 use Rattle.tones.specs.Samples.{areSamples}
@@ -24,9 +25,10 @@ use Rattle.receiver.specs.Step.{eventsAfter}
 use Rattle.receiver.specs.Calls.{fresh}
 use Rattle.message.specs.Message.{messageOf}
 use Rattle.message.proofs.Calls.{length-samples, send-0}
+use Rattle.margin.specs.Windows.{disturbance}
 use Rattle.promise.specs.Recordings.{AreBytes}
 use Rattle.promise.proofs.Message.{are-bytes, message-range, message-read}
-use Rattle.loopback.specs.Loopback.{recordedOf}
+use Rattle.loopback.specs.Loopback.{lists, recordedOf, loopbackTests}
 use Rattle.loopback.proofs.Refusals.{Allowed, allowed, loopback-refused, loopback-accepted}
 use Rattle.loopback.proofs.loopback.Statement.{statement}
 use Rattle.loopback.proofs.loopback.Tie as tie
@@ -55,24 +57,24 @@ module _ (c : tie.Else1) where
   abbrev recorded : List ℤ
   recorded = recordedOf band cs ds
 
-  none : c .before .refusal .result ≡ 0
-  none = c .if1 .left
+  none : firstOf (loopbackTests band (length cs) ds (start .args .size) (length samples) (length (start .args .events .now))) ≡ 0
+  none = sym (c .before .refusal .ensures) ∙ c .if1 .left
 
   all-allowed : Allowed band (length cs) ds (start .args .size) (length samples) (length (start .args .events .now))
-  all-allowed = allowed _ _ _ _ _ _ (sym (c .before .refusal .ensures) ∙ none)
+  all-allowed = allowed _ _ _ _ _ _ none
 
   bytes : AreBytes cs
   bytes = are-bytes cs (λ i. omega (arith, c .before .before .before .shared-slice-known .given i))
 
-  small : Bounded 100 ds
-  small = between-bound 99 ds (all-allowed .small)
+  small : Bounded disturbance ds
+  small = between-bound (disturbance - 1) ds (all-allowed .small)
 
   range : areSamples recorded ≡ true
-  range = message-range band (all-allowed .band-known) cs bytes (all-allowed .few) ds small
+  range = message-range band (all-allowed .known) cs bytes (all-allowed .sizes .few) ds small
 
   -- the promise
   promised : eventsAfter (fresh band) recorded ≡ cs
-  promised = message-read band (all-allowed .band-known) cs bytes (all-allowed .few) ds small
+  promised = message-read band (all-allowed .known) cs bytes (all-allowed .sizes .few) ds small
 
 -- ---- the message is at the buffer's front
 
@@ -80,13 +82,13 @@ module _ (c : tie.After-send) where
   abbrev else : tie.Else1
   else = c .before .before
 
-  abbrev sent : Outcome Unit ℤ
+  abbrev sent : Outcome Unit (List ℤ)
   sent = outcome (c .send .result) tt (c .send .last .1 .1 .0)
 
   given : sent ≡ accepted tt (message else) (samples else)
   given =
       let a = all-allowed else in
-      c .send .ensures ∙ send-0 (band else) (cs else) (samples else) (record { known = a .band-known; few = a .few; room = a .places })
+      c .send .ensures ∙ send-0 (band else) (cs else) (samples else) (record { known = a .known; few = a .sizes .few; room = a .room .places })
 
   counted : sent .count ≡ length (message else)
   counted = given-count tt (message else) (samples else) sent given
@@ -96,7 +98,7 @@ module _ (c : tie.After-send) where
 
   behind : drop (sent .count) (sent .lent) ≡ drop (length (message else)) (samples else)
   behind =
-      ap (λ (o : Outcome Unit ℤ). drop (sent .count) (o .lent)) given
+      ap (λ (o : Outcome Unit (List ℤ)). drop (sent .count) (o .lent)) given
       ∙ drop-at (message else) (drop (length (message else)) (samples else)) (sent .count) (sym counted)
 
 -- ---- and then the recording
@@ -114,7 +116,7 @@ module _ (c : tie.After-disturb) where
   long : length (recorded taken) ≡ sent called .count
   long = length-altered (message taken) (ds taken) ∙ sym (counted called)
 
-  filled : left ≡ recorded taken ++ drop (length (recorded taken)) (samples taken)
+  filled : left ≡ over (recorded taken) (samples taken)
   filled =
       ap₂ (λ (l r : List ℤ). l ++ r) (c .disturb .ensures ∙ ap (λ (xs : List ℤ). altered xs (ds taken)) (front called))
       (behind called ∙ ap (λ (n : ℕ). drop n (samples taken)) (sym (length-altered (message taken) (ds taken))))
@@ -130,9 +132,8 @@ refusal-requires c κs = tt
 returns : tie.Need-returns
 returns c =
     let a = c .before .before .before .before .args in
-    let e = c .before .refusal .ensures in
-    ap (λ (n : ℕ). refused n (a .samples .now) (a .events .now)) e
-    ∙ sym (loopback-refused (a .band) (a .characters .now) (a .disturbance .now) (a .size) (a .samples .now) (a .events .now) (λ z. c .if1 .taken (e ∙ z)))
+    loopback-refused (a .band) (a .characters .now) (a .disturbance .now) (a .size) (lists (a .samples .now) (a .events .now))
+    (c .before .refusal .result) (c .before .refusal .ensures) (c .if1 .taken)
 
 send-requires : tie.Need-send-requires
 send-requires c κs = tt
@@ -152,7 +153,7 @@ disturb-requires c κs =
     let s = c .before .before in
     let e = else s in
     rw (front s)
-    (send-bound 0 (bitSteps (tonesOf (band e)) (messageBits (cs e))), (small e, omega (arith, length-samples (band e) (cs e), all-allowed e .numbers)))
+    (send-bound 0 (bitSteps (tonesOf (band e)) (messageBits (cs e))), (small e, omega (arith, length-samples (band e) (cs e), all-allowed e .room .numbers)))
 
 slice-reshare-prefix-receive : tie.Need-slice-reshare-prefix-receive
 slice-reshare-prefix-receive c =
@@ -167,7 +168,7 @@ receive-requires c κs =
     let d = c .before .before .before in
     let e = taken d in
     let a = all-allowed e in
-    rw (read-part d, promised e) (a .band-known, (range e, ((a .size-low, a .size-high), a .room)))
+    rw (read-part d, promised e) (a .known, (range e, ((a .sizes .low, a .sizes .high), a .room .free)))
 
 same-length : tie.Need-same-length
 same-length c = search needs
@@ -182,12 +183,11 @@ returns-2 c =
     let a = start e .args in
     let p = c .before .before .receive .ensures in
     let read = ap (eventsAfter (fresh (a .band))) (read-part d) ∙ promised e in
-    let events = p .1 ∙ ap (sets (a .events .now) 0) read ∙ sets-front (cs e) (a .events .now) (all-allowed e .room) in
+    let events = p .1 ∙ ap (sets (a .events .now) 0) read ∙ sets-front (cs e) (a .events .now) (all-allowed e .room .free) in
     let count = p .0 ∙ ap length read in
-    (λ i. record { number = 0; count = count i; state = filled d i; lent = events i })
-    ∙ sym
-    (loopback-accepted (a .band) (a .characters .now) (a .disturbance .now) (a .size) (a .samples .now) (a .events .now)
-    (sym (e .before .refusal .ensures) ∙ none e))
+    (λ i. record { number = 0; count = count i; state = tt; lent = lists (filled d i) (events i) })
+    ∙ loopback-accepted (a .band) (a .characters .now) (a .disturbance .now) (a .size) (lists (a .samples .now) (a .events .now))
+    (none e)
 
 pub loopback-spec : {M : Type 1} → statement M
 loopback-spec =

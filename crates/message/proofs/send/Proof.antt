@@ -8,12 +8,13 @@ use borrow.Author.Needs.{needs}
 use lib.IntN.{ℤ}
 use lib.ListN.{length}
 use lib.Seq.{sets, length-sets}
+use Rattle.calls.specs.Refusals.{firstOf}
 use Rattle.transmitter.specs.declared.Transmitter.{Transmitter}
 use Rattle.transmitter.specs.declared.Opened.{Opened}
 use Rattle.transmitter.specs.Samples.{idleBits, charactersBits}
 use Rattle.transmitter.specs.Calls.{fresh, samplesOf, afterBits}
 use Rattle.transmitter.proofs.Rules.{open-band, fresh-kept}
-use Rattle.message.specs.Message.{messageNumber}
+use Rattle.message.specs.Message.{messageTests}
 use Rattle.message.proofs.Parts.{begun, ended, begun-kept, ended-kept, parts-message}
 use Rattle.message.proofs.Calls.{Sendable, sendable, send-refused, send-accepted}
 use Rattle.message.proofs.send.Statement.{statement}
@@ -31,7 +32,7 @@ module _ (c : tie.Else1) where
   abbrev lent : List ℤ
   lent = c .before .before .before .args .out .now
 
-  none : messageNumber band (length bytes) (length lent) ≡ 0
+  none : firstOf (messageTests band (length bytes) (length lent)) ≡ 0
   none = sym (c .before .refusal .ensures) ∙ c .if1 .left
 
   all : Sendable band (length bytes) (length lent)

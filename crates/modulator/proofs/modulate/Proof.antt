@@ -8,6 +8,7 @@ use borrow.Author.Tests.{not-true, not-false}
 use lib.ListN.{length, getD}
 use Rattle.digits.specs.Numbers.{isDigit}
 use Rattle.digits.proofs.Numbers.{digit-low}
+use Rattle.sheet.specs.Calls.{mostBytes}
 use Rattle.printing.proofs.Printing.{refusal-over, printed}
 use Rattle.modulator.specs.Modulate.{modulated}
 use Rattle.modulator.proofs.Cases.{input-empty, input-other, input-digit}
@@ -24,7 +25,7 @@ returns : tie.Need-returns
 returns c =
     let p = c .put-refusal .ensures in
     let a = c .before .before .before .before .args in
-    let room : length (a .out .now) ≡ 65536 = search needs in
+    let room : length (a .out .now) ≡ mostBytes = search needs in
     let l : length (c .put-refusal .last .0) ≡ length (a .out .now) = search needs in
     printed _ _ _ _ (p .0) (p .1 ∙ refusal-over 1 _ (omega arith) (omega (arith, room))) l (modulated (a .input .now)) (input-empty (a .input .now) (c .before .before .if1 .taken))
 
@@ -42,7 +43,7 @@ returns-2 c =
     let p = c .put-refusal2 .ensures in
     let t = c .before .before in
     let a = t .before .before .before .before .before .args in
-    let room : length (a .out .now) ≡ 65536 = search needs in
+    let room : length (a .out .now) ≡ mostBytes = search needs in
     let l : length (c .put-refusal2 .last .0) ≡ length (a .out .now) = search needs in
     printed _ _ _ _ (p .0) (p .1 ∙ refusal-over 1 _ (omega arith) (omega (arith, room))) l (modulated (a .input .now))
     (input-other (a .input .now) (omega (arith, t .before .before .before .if1 .left))

@@ -7,13 +7,14 @@ use native.Mathlib.Omega.{arith}
 use borrow.Author.Needs.{needs}
 use lib.ListN.{length}
 use lib.Seq.{sets}
-use Rattle.calls.specs.Outcome.{Outcome, outcome}
+use Rattle.calls.specs.Refusals.{firstOf}
+use Rattle.calls.specs.Outcome.{Outcome, over, outcome}
 use Rattle.calls.proofs.Answers.{Answered}
 use Rattle.message.specs.Message.{messageOf}
 use Rattle.sheet.specs.Text.{sheetOf}
-use Rattle.printing.specs.Printing.{refusalLines, over}
+use Rattle.printing.specs.Printing.{refusalLines}
 use Rattle.printing.proofs.Printing.{refusal-over}
-use Rattle.modulator.specs.Modulate.{sendNumber}
+use Rattle.modulator.specs.Modulate.{sendTests}
 use Rattle.modulator.proofs.Cases.{sheet-answer, sending-refused, sending-accepted}
 use Rattle.modulator.proofs.put_sheet.Statement.{statement}
 use Rattle.modulator.proofs.put_sheet.Tie as tie
@@ -31,10 +32,10 @@ module _ (c : tie.After-write) where
   abbrev lent : List ℕ
   lent = start .args .out .now
 
-  abbrev written : Outcome Unit ℕ
+  abbrev written : Outcome Unit (List ℕ)
   written = outcome (c .write .result) tt (c .write .last .1 .1 .0)
 
-  answer : Answered tt (sheetOf band (messageOf band bytes)) lent (sendNumber band bytes) written
+  answer : Answered tt (sheetOf band (messageOf band bytes)) lent (firstOf (sendTests band bytes)) written
   answer = sheet-answer band bytes lent written (c .write .ensures)
 
 -- a refusal leaves the buffer as it was
@@ -69,8 +70,8 @@ returns-2 c =
     let none = sym (answer w .told) ∙ c .if1 .left in
     let g = answer w .given none in
     let e = sending-accepted (band w) (bytes w) none in (
-      ap (λ (o : Outcome Unit ℕ). o .count) g ∙ ap length e,
-      ap (λ (o : Outcome Unit ℕ). o .lent) g ∙ ap (λ (l : List ℕ). over l (lent w)) e,
+      ap (λ (o : Outcome Unit (List ℕ)). o .count) g ∙ ap length e,
+      ap (λ (o : Outcome Unit (List ℕ)). o .lent) g ∙ ap (λ (l : List ℕ). over l (lent w)) e,
     )
 
 pub put-sheet-spec : {M : Type 1} → statement M

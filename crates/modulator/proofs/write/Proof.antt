@@ -6,9 +6,11 @@ use Prim.Native.Nat.{ℕ}
 use borrow.Author.Needs.{needs}
 use lib.IntN.{ℤ, pos}
 use lib.ListN.{length, replicate, length-replicate}
+use Rattle.calls.specs.Refusals.{firstOf}
 use Rattle.calls.specs.Outcome.{Outcome, outcome, accepted}
 use Rattle.calls.proofs.Answers.{Answered, given-front, given-part, given-room}
-use Rattle.message.specs.Message.{messageOf, messageNumber}
+use Rattle.transmitter.specs.Calls.{mostCharacters}
+use Rattle.message.specs.Message.{messageOf, samplesFor, messageTests}
 use Rattle.message.proofs.Calls.{send-answer}
 use Rattle.sheet.specs.Calls.{writeOf}
 use Rattle.modulator.proofs.Cases.{sheet-refused, sheet-written}
@@ -16,7 +18,7 @@ use Rattle.modulator.proofs.write.Statement.{statement}
 use Rattle.modulator.proofs.write.Tie as tie
 
 abbrev zeros : List ℤ
-zeros = replicate 32192 (pos 0)
+zeros = replicate (samplesFor mostCharacters) (pos 0)
 
 module _ (c : tie.After-send) where
   abbrev start : tie.Start
@@ -28,12 +30,12 @@ module _ (c : tie.After-send) where
   abbrev bytes : List ℕ
   bytes = start .args .bytes .now
 
-  abbrev sent : Outcome Unit ℤ
+  abbrev sent : Outcome Unit (List ℤ)
   sent = outcome (c .send .result) tt (c .send .last .1 .1 .0)
 
-  sent-answer : Answered tt (messageOf band bytes) zeros (messageNumber band (length bytes) 32192) sent
+  sent-answer : Answered tt (messageOf band bytes) zeros (firstOf (messageTests band (length bytes) (samplesFor mostCharacters))) sent
   sent-answer =
-      subst (λ (n : ℕ). Answered tt (messageOf band bytes) zeros (messageNumber band (length bytes) n) sent) (length-replicate 32192 (pos 0))
+      subst (λ (n : ℕ). Answered tt (messageOf band bytes) zeros (firstOf (messageTests band (length bytes) n)) sent) (length-replicate (samplesFor mostCharacters) (pos 0))
       (send-answer band bytes zeros sent (c .send .ensures))
 
 -- the message is accepted
@@ -41,7 +43,7 @@ module _ (c : tie.Else1) where
   abbrev at : tie.After-send
   at = c .before .before
 
-  none : messageNumber (band at) (length (bytes at)) 32192 ≡ 0
+  none : firstOf (messageTests (band at) (length (bytes at)) (samplesFor mostCharacters)) ≡ 0
   none = sym (sent-answer at .told) ∙ c .if1 .left
 
   given : sent at ≡ accepted tt (messageOf (band at) (bytes at)) zeros

@@ -25,23 +25,23 @@ module _ (c : tie.After-put-decimal) where
   short : c .put-decimal .result ≤ 3
   short = omega (arith, c .put-decimal .ensures .0, length-decimal 2 number small)
 
-slice-aggregate-put : tie.Need-slice-aggregate-put
-slice-aggregate-put c = search needs
+slice-aggregate-put-bytes : tie.Need-slice-aggregate-put-bytes
+slice-aggregate-put-bytes c = search needs
 
-put-requires : tie.Need-put-requires
-put-requires c κs = tt
+put-bytes-requires : tie.Need-put-bytes-requires
+put-bytes-requires c κs = tt
 
 put-decimal-requires : tie.Need-put-decimal-requires
 put-decimal-requires c κs = tt
 
-add-put : tie.Need-add-put
-add-put c = omega (arith, short (c .before .before .before))
+add-put-bytes : tie.Need-add-put-bytes
+add-put-bytes c = omega (arith, short (c .before .before .before))
 
-slice-aggregate-put-2 : tie.Need-slice-aggregate-put-2
-slice-aggregate-put-2 c = search needs
+slice-aggregate-put-bytes-2 : tie.Need-slice-aggregate-put-bytes-2
+slice-aggregate-put-bytes-2 c = search needs
 
-put-requires-2 : tie.Need-put-requires-2
-put-requires-2 c κs = tt
+put-bytes-requires-2 : tie.Need-put-bytes-requires-2
+put-bytes-requires-2 c κs = tt
 
 add-result : tie.Need-add-result
 add-result c = omega (arith, short (c .before .before .before .before .before .before .before))
@@ -53,9 +53,9 @@ returns : tie.Need-returns
 returns c =
     let d = c .before .before .before .before .before .before .before in
     let lent = start d .args .out .now in
-    let two = d .put-decimal .ensures .1 ∙ ap (λ (l : List ℕ). sets l 8 (decimal (number d))) (d .before .before .before .before .put .ensures) in (
+    let two = d .put-decimal .ensures .1 ∙ ap (λ (l : List ℕ). sets l 8 (decimal (number d))) (d .before .before .before .before .put-bytes .ensures) in (
       omega (arith, d .put-decimal .ensures .0, refusal-length (number d)),
-      c .before .before .put2 .ensures
+      c .before .before .put-bytes2 .ensures
           ∙ ap₂ (λ (l : List ℕ) (n : ℕ). sets l (8 + n) (10 ∷ [])) two (d .put-decimal .ensures .0)
           ∙ refusal-parts (number d) lent,
     )
@@ -64,12 +64,12 @@ pub put-refusal-spec : {M : Type 1} → statement M
 put-refusal-spec =
     tie.close
     (tie.spec
-    slice-aggregate-put
-    put-requires
+    slice-aggregate-put-bytes
+    put-bytes-requires
     put-decimal-requires
-    add-put
-    slice-aggregate-put-2
-    put-requires-2
+    add-put-bytes
+    slice-aggregate-put-bytes-2
+    put-bytes-requires-2
     add-result
     same-length
     returns)

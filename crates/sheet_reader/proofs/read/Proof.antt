@@ -5,27 +5,17 @@ use mathlib.Core.List.{List}
 use Prim.Native.Nat.{ℕ}
 use native.Mathlib.Omega.{arith}
 use borrow.Author.Needs.{needs}
-use borrow.Author.Tests.{ne-eqb}
 use lib.IntN.{ℤ}
 use lib.ListN.{length}
 use Rattle.integers.proofs.Lists.{sets-front}
-use Rattle.calls.specs.Outcome.{refused, accepted}
-use Rattle.sheet.specs.Calls.{readNumber, readOf}
+use Rattle.calls.specs.Refusals.{firstOf}
+use Rattle.calls.proofs.Refusals.{is-refused, not-refused}
+use Rattle.sheet.specs.Calls.{readTests, readOf}
 use Rattle.sheet.specs.Parse.{bandIn, samplesOf}
 use Rattle.sheet.proofs.Calls.{Readable, readable}
 use Rattle.sheet.proofs.Inverse.{Headed, sheet-headed}
 use Rattle.sheet_reader.proofs.read.Statement.{statement}
 use Rattle.sheet_reader.proofs.read.Tie as tie
-
--- the two outcomes
-module _ (text : List ℕ) (lent : List ℤ) where
-  read-refused : (k : ℕ) → k ≡ readNumber text (length lent) → (k ≡ 0 → ⊥) → refused k 0 lent ≡ readOf text lent
-  unfolding readOf
-  read-refused k e h = rw (← e, ne-eqb k 0 h)
-
-  read-accepted : readNumber text (length lent) ≡ 0 → accepted (bandIn text) (samplesOf text) lent ≡ readOf text lent
-  unfolding readOf
-  read-accepted e = rw e
 
 -- nothing is refused
 module _ (c : tie.Else1) where
@@ -35,8 +25,8 @@ module _ (c : tie.Else1) where
   abbrev lent : List ℤ
   lent = c .before .before .before .args .out .now
 
-  none : readNumber text (length lent) ≡ 0
-  none = sym (c .before .refusal .ensures) ∙ omega arith
+  none : firstOf (readTests text (length lent)) ≡ 0
+  none = sym (c .before .refusal .ensures) ∙ c .if1 .left
 
   can : Readable text (length lent)
   can = readable text (length lent) none
@@ -48,9 +38,10 @@ refusal-requires : tie.Need-refusal-requires
 refusal-requires c κs = tt
 
 returns : tie.Need-returns
+unfolding readOf
 returns c =
     let a = c .before .before .before .args in
-    read-refused (a .text .now) (a .out .now) (c .before .refusal .result) (c .before .refusal .ensures) (λ z. omega arith)
+    is-refused (readTests (a .text .now) (length (a .out .now))) 0 (a .out .now) _ _ (c .before .refusal .ensures) (c .if1 .taken)
 
 fill-requires : tie.Need-fill-requires
 fill-requires c κs = can (c .before) .places
@@ -65,11 +56,13 @@ same-length : tie.Need-same-length
 same-length c = search needs
 
 returns-2 : tie.Need-returns-2
+unfolding readOf
 returns-2 c =
     let e = c .before .before .before .before in
     let p = c .before .before .fill .ensures in
     let filled = p .1 ∙ sets-front (samplesOf (text e)) (lent e) (can e .places) in
-    (λ i. record { number = 0; count = p .0 i; state = bandIn (text e); lent = filled i }) ∙ read-accepted (text e) (lent e) (none e)
+    (λ i. record { number = 0; count = p .0 i; state = bandIn (text e); lent = filled i })
+    ∙ sym (not-refused (readTests (text e) (length (lent e))) 0 (lent e) _ (none e))
 
 pub read-spec : {M : Type 1} → statement M
 read-spec =

@@ -33,11 +33,11 @@ array-share-prefix-bytes c =
     let d = c .before .before in
     omega (arith, len d, ap length (bytes d), length-append (digits d) (replicate (5 - length (digits d)) 0))
 
-slice-aggregate-put : tie.Need-slice-aggregate-put
-slice-aggregate-put c = len (c .before .before .before) ∙ sym (ap length (front (c .before .before .before)))
+slice-aggregate-put-bytes : tie.Need-slice-aggregate-put-bytes
+slice-aggregate-put-bytes c = len (c .before .before .before) ∙ sym (ap length (front (c .before .before .before)))
 
-put-requires : tie.Need-put-requires
-put-requires c κs = tt
+put-bytes-requires : tie.Need-put-bytes-requires
+put-bytes-requires c κs = tt
 
 same-length : tie.Need-same-length
 same-length c = search needs
@@ -46,7 +46,7 @@ returns : tie.Need-returns
 returns c =
     let d = c .before .before .before .before .before .before in
     let a = d .before .before .args in
-    (len d, c .before .before .put .ensures ∙ ap (sets (a .out .now) (a .at)) (front d))
+    (len d, c .before .before .put-bytes .ensures ∙ ap (sets (a .out .now) (a .at)) (front d))
 
 pub put-decimal-spec : {M : Type 1} → statement M
-put-decimal-spec = tie.close (tie.spec decimal-requires array-share-prefix-bytes slice-aggregate-put put-requires same-length returns)
+put-decimal-spec = tie.close (tie.spec decimal-requires array-share-prefix-bytes slice-aggregate-put-bytes put-bytes-requires same-length returns)

@@ -4,7 +4,7 @@ use mathlib.Core.Path.{_≡_}
 use Prim.Native.Nat.{_-_, _^_, _<_}
 use native.Mathlib.Omega.{arith}
 use borrow.Author.Tests.{lt-ltb, le-ltb, le-leb, lt-leb}
-use Rattle.control.specs.Control.{isSlot}
+use Rattle.control.specs.Ranges.{isSlot}
 use Rattle.control.proofs.slot.is_slot.Statement.{statement}
 use Rattle.control.proofs.slot.is_slot.Tie as tie
 

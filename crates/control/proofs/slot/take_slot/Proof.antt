@@ -15,8 +15,8 @@ use Rattle.control.proofs.slot.take_slot.Tie as tie
 waiting-requires : tie.Need-waiting-requires
 waiting-requires c κs = tt
 
-searching-requires : tie.Need-searching-requires
-searching-requires c κs = tt
+quiet-requires : tie.Need-quiet-requires
+quiet-requires c κs = tt
 
 reporting-requires : tie.Need-reporting-requires
 reporting-requires c κs = tt
@@ -48,7 +48,7 @@ returns-2 : tie.Need-returns-2
 returns-2 c =
     let a = c .before .before .before .args in
     let z = c .before .before .if1 .taken in
-    c .searching .ensures
+    c .quiet .ensures
     ∙ sym
     (⊎-elim
     (λ w. start-mark (a .byte) (a .d) (a .slot) z (w .0 .taken) (w .1 .left))
@@ -80,4 +80,4 @@ returns-6 c =
     ∙ sym (stop-mark (a .byte) (a .d) (a .slot) (c .before .before .before .before .before .if1 .left) (not-false (a .d .good) (c .before .before .before .if4 .left)) (c .before .before .if5 .left) (c .before .if6 .left))
 
 pub take-slot-spec : {M : Type 1} → statement M
-take-slot-spec = tie.close (tie.spec waiting-requires searching-requires reporting-requires add-waiting gather-requires waiting-requires-2 reporting-requires-2 reporting-requires-3 returns returns-2 returns-3 returns-4 returns-5 returns-6)
+take-slot-spec = tie.close (tie.spec waiting-requires quiet-requires reporting-requires add-waiting gather-requires waiting-requires-2 reporting-requires-2 reporting-requires-3 returns returns-2 returns-3 returns-4 returns-5 returns-6)

@@ -1,27 +1,27 @@
 -- `demodulator::events::put_events_of` meets its contract: the block is accepted, and its events are printed.
 -- Assumes nothing.
-use mathlib.Core.Path.{_≡_, ap, _∙_}
+use mathlib.Core.Path.{_≡_, sym, ap, _∙_, subst}
 use mathlib.Core.List.{List}
 use Prim.Native.Nat.{ℕ}
 use native.Mathlib.Omega.{arith}
 use borrow.Author.Needs.{needs}
 use lib.IntN.{ℤ}
 use lib.ListN.{length, replicate}
-use Rattle.calls.specs.Outcome.{Outcome, outcome, accepted}
+use Rattle.calls.specs.Outcome.{Outcome, outcome, accepted, over}
 use Rattle.calls.proofs.Answers.{given-front, given-part, given-room}
 use Rattle.receiver.specs.declared.Receiver.{Receiver}
 use Rattle.receiver.specs.declared.Opened.{Opened}
 use Rattle.receiver.specs.Step.{stateAfter, eventsAfter}
-use Rattle.receiver.specs.Calls.{fresh, blockOf}
+use Rattle.receiver.specs.Calls.{fresh, mostEvents, blockOf}
 use Rattle.receiver.proofs.Ranges.{open-band, fresh-kept}
 use Rattle.receiver.proofs.Calls.{block-0}
-use Rattle.printing.specs.Printing.{over}
-use Rattle.demodulator.specs.Lines.{eventsText}
+use Rattle.demodulator.specs.Lines.{HaveKinds, eventsText}
+use Rattle.demodulator.proofs.Rows.{reported-kinds}
 use Rattle.demodulator.proofs.events.put_events_of.Statement.{statement}
 use Rattle.demodulator.proofs.events.put_events_of.Tie as tie
 
 abbrev places : List ℕ
-places = replicate 342 0
+places = replicate mostEvents 0
 
 -- ---- the block is accepted
 
@@ -35,7 +35,7 @@ module _ (c : tie.After-block) where
   abbrev xs : List ℤ
   xs = start .args .samples .now
 
-  abbrev read : Outcome Receiver ℕ
+  abbrev read : Outcome Receiver (List ℕ)
   read = outcome (c .block .result .answer) (c .block .result .receiver) (c .block .last .1 .1 .0)
 
   given : read ≡ accepted (stateAfter s xs) (eventsAfter s xs) places
@@ -67,9 +67,12 @@ slice-aggregate-put-events c =
 put-events-requires : tie.Need-put-events-requires
 put-events-requires c κs =
     let b = c .before .before .before .before in
-    let l : length (read b .lent) ≡ 342 = search needs in
+    let l : length (read b .lent) ≡ mostEvents = search needs in
     let room = given-room (stateAfter (s b) (xs b)) (eventsAfter (s b) (xs b)) places (read b) (given b) in
-    (omega (arith, l, room, slice-aggregate-put-events c), omega (arith, start b .pre .1 .1 .1))
+    let front = given-front (stateAfter (s b) (xs b)) (eventsAfter (s b) (xs b)) places (read b) (given b) in (
+      omega (arith, l, room, slice-aggregate-put-events c),
+      (subst HaveKinds (sym front) (reported-kinds (s b) (xs b) (fresh-kept (start b .args .band) (start b .pre .0))), omega (arith, start b .pre .1 .1 .1)),
+    )
 
 same-length : tie.Need-same-length
 same-length c = search needs

@@ -2,8 +2,8 @@
 -- Assumes nothing.
 use native.Mathlib.Omega.{arith}
 use borrow.Author.Needs.{needs}
-use borrow.Author.Tests.{lt-ltb}
 use Rattle.digits.specs.Numbers.{hexadecimal}
+use Rattle.demodulator.proofs.Printed.{char-parts}
 use Rattle.demodulator.proofs.lines.char_fields.Statement.{statement}
 use Rattle.demodulator.proofs.lines.char_fields.Tie as tie
 
@@ -20,7 +20,7 @@ returns : tie.Need-returns
 unfolding hexadecimal
 returns c =
     let start = c .before in
-    rw (lt-ltb (start .args .byte) 256 (omega (arith, start .fits .byte)), c .hexadecimal .ensures)
+    rw (c .hexadecimal .ensures) (char-parts (start .args .byte) (omega (arith, start .fits .byte)))
 
 pub char-fields-spec : {M : Type 1} → statement M
 char-fields-spec = tie.close (tie.spec hexadecimal-requires array-read-high array-read-low returns)

@@ -18,13 +18,13 @@ add-put-fields : tie.Need-add-put-fields
 add-put-fields c =
     let d = c .before .before .before in
     let start = d .before .before .before in
-    omega (arith, d .put-decimal .ensures .0, line-length (start .args .place) (start .args .event), start .pre)
+    omega (arith, d .put-decimal .ensures .0, line-length (start .args .place) (start .args .event), start .pre .1)
 
 put-fields-requires : tie.Need-put-fields-requires
 put-fields-requires c κs =
     let d = c .before .before .before in
     let start = d .before .before .before in
-    omega (arith, d .put-decimal .ensures .0, line-length (start .args .place) (start .args .event), start .pre)
+    (start .pre .0, omega (arith, d .put-decimal .ensures .0, line-length (start .args .place) (start .args .event), start .pre .1))
 
 same-length : tie.Need-same-length
 same-length c = search needs

@@ -8,6 +8,7 @@ use borrow.Author.Needs.{needs}
 use lib.ListN.{length}
 use lib.Seq.{sets, length-sets}
 use Rattle.demodulator.specs.Lines.{eventLines, namesLine}
+use Rattle.demodulator.proofs.Rows.{kind-at}
 use Rattle.demodulator.proofs.Printed.{text-most, text-parts, Printed, printed-start, printed-room, printed-more, printed-count, printed-end}
 use Rattle.demodulator.proofs.lines.put_events.Statement.{statement}
 use Rattle.demodulator.proofs.lines.put_events.Tie as tie
@@ -18,14 +19,14 @@ Inv-loop out₀ events at₀ place₀ out at place = (place ≤ length events) �
 abbrev μ-loop : tie.MeasureT-loop
 μ-loop out₀ events at₀ place₀ out at place = length events - place
 
-slice-aggregate-put : tie.Need-slice-aggregate-put Inv-loop μ-loop
-slice-aggregate-put c = search needs
+slice-aggregate-put-bytes : tie.Need-slice-aggregate-put-bytes Inv-loop μ-loop
+slice-aggregate-put-bytes c = search needs
 
-put-requires : tie.Need-put-requires Inv-loop μ-loop
-put-requires c κs = tt
+put-bytes-requires : tie.Need-put-bytes-requires Inv-loop μ-loop
+put-bytes-requires c κs = tt
 
 loop-holds : tie.Need-loop-holds Inv-loop μ-loop
-loop-holds c = (zero-le, printed-start (c .before .before .put .last .0) _)
+loop-holds c = (zero-le, printed-start (c .before .before .put-bytes .last .0) _)
 
 cast-put-event : tie.Need-cast-put-event Inv-loop μ-loop
 cast-put-event c = omega arith
@@ -40,7 +41,7 @@ put-event-requires : tie.Need-put-event-requires Inv-loop μ-loop
 put-event-requires c κs =
     let l = c .before .before .before .loop in
     let start = c .before .before .before .before .before .before .before .before .before .before .before in
-    printed-room _ _ _ _ _ (l .inv .1) (omega arith) (start .pre .0)
+    (kind-at _ _ (omega arith) (start .pre .1 .0), printed-room _ _ _ _ _ (l .inv .1) (omega arith) (start .pre .0))
 
 add-place : tie.Need-add-place Inv-loop μ-loop
 add-place c = omega arith
@@ -58,19 +59,19 @@ same-length : tie.Need-same-length Inv-loop μ-loop
 same-length c =
     let named = c .before .before .before .before in
     let lent = named .before .before .before .before .before .args .out .now in
-    c .before .loop .inv .1 .filled .long ∙ ap length (named .put .ensures) ∙ length-sets lent 0 namesLine
+    c .before .loop .inv .1 .filled .long ∙ ap length (named .put-bytes .ensures) ∙ length-sets lent 0 namesLine
 
 returns : tie.Need-returns Inv-loop μ-loop
 returns c =
     let l = c .before .loop in
-    let put = c .before .before .before .before .put in
+    let put = c .before .before .before .before .put-bytes in
     let start = c .before .before .before .before .before .before .before .before .before in
     let events = start .args .events .now in
     let out = start .args .out .now in
     let end = printed-end _ _ _ _ _ (l .inv .1) (c .loop-test .left) in
     let most = text-most events (start .pre .0) in (
       printed-count _ _ _ _ _ (l .inv .1) (c .loop-test .left),
-      end ∙ ap (λ (lent : List ℕ). sets lent 18 (eventLines 0 events)) (put .ensures) ∙ text-parts events out (omega (arith, start .pre .1, most)),
+      end ∙ ap (λ (lent : List ℕ). sets lent 18 (eventLines 0 events)) (put .ensures) ∙ text-parts events out (omega (arith, start .pre .1 .1, most)),
     )
 
 pub put-events-spec : {M : Type 1} → statement M
@@ -79,8 +80,8 @@ put-events-spec =
     (tie.spec
     Inv-loop
     μ-loop
-    slice-aggregate-put
-    put-requires
+    slice-aggregate-put-bytes
+    put-bytes-requires
     loop-holds
     cast-put-event
     mul-put-event

@@ -17,8 +17,8 @@ abbrev μ-loop : tie.MeasureT-loop
 loop-holds : tie.Need-loop-holds Inv-loop μ-loop
 loop-holds c = search needs
 
-signed-hundred-requires : tie.Need-signed-hundred-requires Inv-loop μ-loop
-signed-hundred-requires c κs = tt
+largest-requires : tie.Need-largest-requires Inv-loop μ-loop
+largest-requires c κs = tt
 
 mul-numbers : tie.Need-mul-numbers Inv-loop μ-loop
 mul-numbers c = search needs
@@ -48,7 +48,7 @@ random-signs-spec =
     Inv-loop
     μ-loop
     loop-holds
-    signed-hundred-requires
+    largest-requires
     mul-numbers
     array-set-from-numbers
     next-number-requires

@@ -11,21 +11,21 @@ use Rattle.loopback.proofs.disturb.disturb.Statement.{statement}
 use Rattle.loopback.proofs.disturb.disturb.Tie as tie
 
 abbrev Inv-loop : tie.InvT-loop
-Inv-loop samples₀ disturbance i₀ samples i = Disturbed samples₀ disturbance samples i
+Inv-loop samples₀ added i₀ samples i = Disturbed samples₀ added samples i
 
 abbrev μ-loop : tie.MeasureT-loop
-μ-loop samples₀ disturbance i₀ samples i = length samples₀ - i
+μ-loop samples₀ added i₀ samples i = length samples₀ - i
 
 -- a turn is within both lists
 module _ (c : tie.In-loop Inv-loop μ-loop) where
   inside : c .before .loop .i < length (c .before .before .args .samples .now)
   inside = omega (arith, c .loop-test .taken, c .before .loop .inv .filling .long)
 
-  numbered : c .before .loop .i < length (c .before .before .args .disturbance .now)
+  numbered : c .before .loop .i < length (c .before .before .args .added .now)
   numbered = omega (arith, inside, c .before .before .pre .1 .1)
 
 loop-holds : tie.Need-loop-holds Inv-loop μ-loop
-loop-holds c = disturbed-start (c .args .samples .now) (c .args .disturbance .now)
+loop-holds c = disturbed-start (c .args .samples .now) (c .args .added .now)
 
 mul-sum : tie.Need-mul-sum Inv-loop μ-loop
 mul-sum c = search needs

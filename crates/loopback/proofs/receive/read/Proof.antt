@@ -12,12 +12,13 @@ use Rattle.calls.specs.Outcome.{Outcome, outcome, accepted}
 use Rattle.calls.proofs.Answers.{given-count, given-front, given-part, given-room}
 use Rattle.receiver.specs.declared.Receiver.{Receiver}
 use Rattle.receiver.specs.Step.{stateAfter, eventsAfter}
+use Rattle.receiver.specs.Calls.{mostEvents}
 use Rattle.receiver.proofs.Calls.{block-0}
 use Rattle.loopback.proofs.receive.read.Statement.{statement}
 use Rattle.loopback.proofs.receive.read.Tie as tie
 
 abbrev places : List ℕ
-places = replicate 342 0
+places = replicate mostEvents 0
 
 -- ---- the block is accepted
 
@@ -38,10 +39,10 @@ module _ (c : tie.After-block-by-value) where
   is-accepted =
       let pre = c .before .before .before .pre in
       c .block-by-value .ensures
-      ∙ block-0 s xs places (pre .0) (pre .1 .0 .0) (pre .1 .0 .1) (omega (arith, length-replicate {A = ℕ} 342 0, pre .1 .0 .0))
+      ∙ block-0 s xs places (pre .0) (pre .1 .0 .0) (pre .1 .0 .1) (omega (arith, length-replicate {A = ℕ} mostEvents 0, pre .1 .0 .0))
 
   next-state : c .block-by-value .result .receiver ≡ stateAfter s xs
-  next-state = ap (λ (o : Outcome Receiver ℕ). o .state) is-accepted
+  next-state = ap (λ (o : Outcome Receiver (List ℕ)). o .state) is-accepted
 
   counted : count ≡ length (eventsAfter s xs)
   counted = given-count (stateAfter s xs) (eventsAfter s xs) places _ is-accepted
@@ -62,13 +63,13 @@ array-share-prefix-part c =
     let b = c .before .before .before .before in
     given-room (stateAfter (s b) (xs b)) (eventsAfter (s b) (xs b)) places _ (is-accepted b)
 
-slice-aggregate-put : tie.Need-slice-aggregate-put
-slice-aggregate-put c =
+slice-aggregate-put-events : tie.Need-slice-aggregate-put-events
+slice-aggregate-put-events c =
     let b = c .before .before .before .before .before in
     given-part (stateAfter (s b) (xs b)) (eventsAfter (s b) (xs b)) places _ (is-accepted b)
 
-put-requires : tie.Need-put-requires
-put-requires c κs =
+put-events-requires : tie.Need-put-events-requires
+put-events-requires c κs =
     omega (arith, ap length (events (c .before .before .before .before .before)), c .before .before .before .before .before .before .before .before .pre .1 .1)
 
 add-t17 : tie.Need-add-t17
@@ -84,7 +85,7 @@ returns c =
     let call = c .before .before .before .before .before .before .before .before in
     let a = call .before .before .before .args in (
       λ i. record { receiver = next-state call i; answer = record { number = 0; count = a .count + counted call i } },
-      c .before .before .put .ensures ∙ ap (sets (a .events .now) (a .count)) (events call),
+      c .before .before .put-events .ensures ∙ ap (sets (a .events .now) (a .count)) (events call),
     )
 
 pub read-spec : {M : Type 1} → statement M
@@ -94,8 +95,8 @@ read-spec =
     slice-aggregate-block-by-value
     block-by-value-requires
     array-share-prefix-part
-    slice-aggregate-put
-    put-requires
+    slice-aggregate-put-events
+    put-events-requires
     add-t17
     same-length
     returns)

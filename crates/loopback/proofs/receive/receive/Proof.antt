@@ -7,6 +7,7 @@ use native.Mathlib.Omega.{arith}
 use borrow.Author.Needs.{needs}
 use lib.IntN.{ℤ}
 use lib.ListN.{length, take, drop, length-take}
+use Rattle.tones.specs.Samples.{mostSamples}
 use Rattle.receiver.specs.declared.Opened.{Opened}
 use Rattle.receiver.specs.Calls.{fresh}
 use Rattle.receiver.proofs.Ranges.{open-band, fresh-kept}
@@ -38,7 +39,7 @@ module _ (c : tie.After-block-end Inv-loop μ-loop) where
   ends : end ≤ length xs
   ends = omega (arith, c .block-end .ensures)
 
-  short : length (take (end - at) (drop at xs)) ≤ 16384
+  short : length (take (end - at) (drop at xs)) ≤ mostSamples
   short = omega (arith, c .block-end .ensures, length-take (end - at) (drop at xs), c .before .before .before .before .before .before .pre .1 .1 .0 .1)
 
 -- ---- what is asked, kept and left

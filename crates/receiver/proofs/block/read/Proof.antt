@@ -12,8 +12,7 @@ use Rattle.control.specs.declared.Decision.{Decision}
 use Rattle.control.specs.Rules.{reports}
 use Rattle.receiver.specs.declared.Receiver.{Receiver}
 use Rattle.receiver.specs.Step.{controlOf}
-use Rattle.receiver.specs.Windows.{progressed}
-use Rattle.receiver.specs.Places.{decisionsBy}
+use Rattle.receiver.specs.AsCoded.{reachedBy, decisionsBy}
 use Rattle.receiver.proofs.Ranges.{in-range}
 use Rattle.receiver.proofs.Windows.{decisionsOver}
 use Rattle.receiver.proofs.Blocks.{Accepted, Head, block-source, block-decisions, block-room, block-read}
@@ -81,13 +80,14 @@ same-length c = search needs
 
 returns : tie.Need-returns
 returns c =
-    let u = c .before .before .before .before in
+    let l = c .before in
+    let u = l .before .before .before .before in
     let w = u .before .before .before .before in
     let s = state w in
     block-read (allowed w) (head w)
-    _ (u .scan .ensures .0 ∙ ap (progressed (controlOf s)) (decided w))
+    _ (u .scan .ensures .0 ∙ ap (reachedBy (controlOf s)) (decided w))
     _ (u .scan .ensures .1 ∙ ap (λ (ds : List Decision). sets (start w .args .events .now) 0 (reports (controlOf s) ds)) (decided w))
-    (c .last-window .result) (c .last-window .ensures)
+    (l .last-window .result) (l .last-window .ensures)
 
 pub read-spec : {M : Type 1} → statement M
 read-spec = tie.close (tie.spec least-requires joined-requires tones-of-requires weights-requires slice-aggregate-scan slice-aggregate-scan-2 scan-requires slice-aggregate-last-window last-window-requires same-length returns)

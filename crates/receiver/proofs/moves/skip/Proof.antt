@@ -5,7 +5,7 @@ use Prim.Native.Nat.{ℕ, _+_, _-_}
 use native.Mathlib.Omega.{arith}
 use borrow.Author.Needs.{needs}
 use borrow.Author.Tests.{le-leb, lt-leb}
-use Rattle.receiver.specs.Places.{movedTo}
+use Rattle.receiver.specs.AsCoded.{movedTo}
 use Rattle.receiver.proofs.moves.skip.Statement.{statement}
 use Rattle.receiver.proofs.moves.skip.Tie as tie
 

@@ -6,9 +6,9 @@ use Prim.Native.Nat.{ℕ, _-_}
 use native.Mathlib.Omega.{arith}
 use lib.ListN.{length}
 use Rattle.control.specs.declared.Decision.{Decision}
-use Rattle.control.specs.Control.{Control}
+use Rattle.control.specs.declared.Control.{Control}
 use Rattle.control.proofs.Ranges.{control-stage}
-use Rattle.receiver.specs.Places.{decisionsBy, exactly}
+use Rattle.receiver.specs.AsCoded.{decisionsBy, exactly}
 use Rattle.receiver.proofs.Places.{run-place}
 use Rattle.receiver.proofs.Scanning.{window-each, Scanning, scanning-start, scanning-room, scanning-more, scanning-end}
 use Rattle.receiver.proofs.scan.scan.Statement.{statement}
@@ -29,7 +29,7 @@ module _ (s : tie.Start Inv-loop μ-loop) where
   lent = s .args .events .now
 
   abbrev from : Control
-  from = record { run = s .args .run; stage = s .args .first }
+  from = s .args .first
 
 wide-requires : tie.Need-wide-requires Inv-loop μ-loop
 wide-requires c κs = tt
@@ -42,23 +42,23 @@ loop-holds c =
     let s = c .before .before .before in
     scanning-start (all s) (lent s) (from s) (s .pre .1 .0) (c .exact .result) (c .exact .ensures ∙ ap (exactly 0) (c .before .wide .ensures))
 
-turn-requires : tie.Need-turn-requires Inv-loop μ-loop
-turn-requires c κs =
+go-on-requires : tie.Need-go-on-requires Inv-loop μ-loop
+go-on-requires c κs =
     let l = c .before .before in
     let s = l .before .before .before .before in
     (s .pre .0, ((l .loop .inv .place, c .if1 .taken), control-stage _ (l .loop .inv .control)))
 
-put-requires : tie.Need-put-requires Inv-loop μ-loop
-put-requires c κs =
+put-event-requires : tie.Need-put-event-requires Inv-loop μ-loop
+put-event-requires c κs =
     let t = c .before .before in
     let l = t .before .before .before in
     let s = l .before .before .before .before in
-    scanning-room (all s) (lent s) (from s) (l .loop .inv) (t .turn .result) (t .turn .ensures) (s .pre .1 .1)
+    scanning-room (all s) (lent s) (from s) (l .loop .inv) (t .go-on .result) (t .go-on .ensures) (s .pre .1 .1)
 
 loop-less : tie.Need-loop-less Inv-loop μ-loop
 loop-less c =
     let t = c .before .before .before .before .before in
-    omega (arith, t .turn .ensures .later, t .before .if1 .taken)
+    omega (arith, t .go-on .ensures .later, t .before .if1 .taken)
 
 loop-again : tie.Need-loop-again Inv-loop μ-loop
 loop-again c =
@@ -66,7 +66,7 @@ loop-again c =
     let t = u .before .before .before in
     let l = t .before .before .before in
     let s = l .before .before .before .before in
-    scanning-more (all s) (lent s) (from s) (l .loop .inv) (t .turn .result) (t .turn .ensures) _ _ (u .put .ensures .0) (u .put .ensures .1)
+    scanning-more (all s) (lent s) (from s) (l .loop .inv) (t .go-on .result) (t .go-on .ensures) _ _ (u .put-event .ensures .0) (u .put-event .ensures .1)
 
 run-back-requires : tie.Need-run-back-requires Inv-loop μ-loop
 run-back-requires c κs =
@@ -91,4 +91,4 @@ returns c =
     (c .narrow .ensures ∙ c .before .run-back .ensures)
 
 pub scan-spec : {M : Type 1} → statement M
-scan-spec = tie.close (tie.spec Inv-loop μ-loop wide-requires exact-requires loop-holds turn-requires put-requires loop-less loop-again run-back-requires narrow-requires same-length returns)
+scan-spec = tie.close (tie.spec Inv-loop μ-loop wide-requires exact-requires loop-holds go-on-requires put-event-requires loop-less loop-again run-back-requires narrow-requires same-length returns)

@@ -10,9 +10,9 @@ use lib.ListN.{length}
 use Rattle.control.specs.declared.Decision.{Decision}
 use Rattle.control.specs.declared.Stage.{Stage}
 use Rattle.control.specs.declared.Stage.the-variants.{Waiting}
-use Rattle.control.specs.Rules.{waitOver}
+use Rattle.control.specs.AsCoded.{waitOver}
 use Rattle.control.proofs.Ranges.{wait-low, wait-high, stage-wait}
-use Rattle.receiver.specs.Places.{decisionsBy, judged}
+use Rattle.receiver.specs.AsCoded.{decisionsBy, judged}
 use Rattle.receiver.proofs.Onward.{wait-on, SlotTaken, slot-taken}
 use Rattle.receiver.proofs.Scanning.{window-each}
 use Rattle.receiver.proofs.scan.wait_for.Statement.{statement}

@@ -8,7 +8,7 @@ use borrow.Author.Needs.{needs}
 use borrow.Author.Tests.{not-true, not-false}
 use lib.ListN.{length}
 use Rattle.control.specs.declared.Decision.{Decision}
-use Rattle.receiver.specs.Places.{decisionsBy}
+use Rattle.receiver.specs.AsCoded.{decisionsBy}
 use Rattle.receiver.proofs.Places.{Back, back-start, back-good, back-bad, back-all}
 use Rattle.receiver.proofs.Scanning.{window-each}
 use Rattle.receiver.proofs.seek.run_back.Statement.{statement}

@@ -9,7 +9,7 @@ use borrow.Author.Needs.{needs}
 use borrow.Author.Tests.{not-true, not-false}
 use lib.ListN.{length}
 use Rattle.control.specs.declared.Decision.{Decision}
-use Rattle.receiver.specs.Places.{decisionsBy, judged, runAt}
+use Rattle.receiver.specs.AsCoded.{decisionsBy, judged, runAt}
 use Rattle.receiver.proofs.Places.{place-more}
 use Rattle.receiver.proofs.Onward.{Seeking, seek-start, seek-short, seek-missed, seek-other, seek-bad, seek-tone}
 use Rattle.receiver.proofs.Scanning.{window-each}

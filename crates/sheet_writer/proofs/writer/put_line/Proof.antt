@@ -10,6 +10,7 @@ use lib.Seq.{sets}
 use Rattle.integers.proofs.Lists.{sets-append}
 use Rattle.digits.specs.Numbers.{decimal}
 use Rattle.sheet.specs.Text.{lineOf}
+use Rattle.sheet.specs.Calls.{mostBytes}
 use Rattle.sheet_writer.proofs.Writing.{sample-minus, sample-plain}
 use Rattle.sheet_writer.proofs.writer.put_line.Statement.{statement}
 use Rattle.sheet_writer.proofs.writer.put_line.Tie as tie
@@ -25,7 +26,7 @@ module _ (c : tie.Then1) where
   minus : lineOf (start .args .sample) ≡ 45 ∷ number
   minus = sample-minus (start .args .sample) (start .fits .sample) (c .before .magnitude .result) (c .before .magnitude .ensures) (c .if1 .taken)
 
-  room : start .args .at + 1 + length number ≤ 65536
+  room : start .args .at + 1 + length number ≤ mostBytes
   room = omega (arith, ap length minus, start .pre)
 
 plain : (c : tie.Else1) → lineOf (c .before .before .before .args .sample) ≡ decimal (c .before .magnitude .result) ++ (10 ∷ [])
@@ -36,11 +37,11 @@ plain c =
 magnitude-requires : tie.Need-magnitude-requires
 magnitude-requires c κs = tt
 
-slice-aggregate-put : tie.Need-slice-aggregate-put
-slice-aggregate-put c = search needs
+slice-aggregate-put-bytes : tie.Need-slice-aggregate-put-bytes
+slice-aggregate-put-bytes c = search needs
 
-put-requires : tie.Need-put-requires
-put-requires c κs = tt
+put-bytes-requires : tie.Need-put-bytes-requires
+put-bytes-requires c κs = tt
 
 add-put-number : tie.Need-add-put-number
 add-put-number c = omega (arith, room (c .before .before .before .before .before .before))
@@ -58,7 +59,7 @@ returns c =
     let p = c .before .before .put-number .ensures in (
       omega (arith, p .0, ap length (minus t)),
       p .1
-          ∙ ap (λ (l : List ℕ). sets l (a .at + 1) (number t)) (c .before .before .before .before .before .before .put .ensures)
+          ∙ ap (λ (l : List ℕ). sets l (a .at + 1) (number t)) (c .before .before .before .before .before .before .put-bytes .ensures)
           ∙ sym (sets-append (a .out .now) (a .at) (45 ∷ []) (number t))
           ∙ ap (sets (a .out .now) (a .at)) (sym (minus t)),
     )
@@ -77,8 +78,8 @@ put-line-spec =
     tie.close
     (tie.spec
     magnitude-requires
-    slice-aggregate-put
-    put-requires
+    slice-aggregate-put-bytes
+    put-bytes-requires
     add-put-number
     put-number-requires
     same-length

@@ -9,6 +9,7 @@ use lib.ListN.{length, length-append}
 use lib.Seq.{sets}
 use Rattle.integers.proofs.Lists.{sets-append}
 use Rattle.digits.specs.Numbers.{decimal}
+use Rattle.sheet.specs.Calls.{mostBytes}
 use Rattle.sheet_writer.proofs.writer.put_number.Statement.{statement}
 use Rattle.sheet_writer.proofs.writer.put_number.Tie as tie
 
@@ -23,20 +24,20 @@ module _ (c : tie.After-put-decimal) where
   long : length (digits ++ (10 ∷ [])) ≡ c .put-decimal .result + 1
   long = omega (arith, c .put-decimal .ensures .0, length-append digits (10 ∷ []))
 
-  room : start .args .at + c .put-decimal .result + 1 ≤ 65536
+  room : start .args .at + c .put-decimal .result + 1 ≤ mostBytes
   room = omega (arith, long, start .pre)
 
 put-decimal-requires : tie.Need-put-decimal-requires
 put-decimal-requires c κs = tt
 
-add-put : tie.Need-add-put
-add-put c = omega (arith, room (c .before .before .before))
+add-put-bytes : tie.Need-add-put-bytes
+add-put-bytes c = omega (arith, room (c .before .before .before))
 
-slice-aggregate-put : tie.Need-slice-aggregate-put
-slice-aggregate-put c = search needs
+slice-aggregate-put-bytes : tie.Need-slice-aggregate-put-bytes
+slice-aggregate-put-bytes c = search needs
 
-put-requires : tie.Need-put-requires
-put-requires c κs = tt
+put-bytes-requires : tie.Need-put-bytes-requires
+put-bytes-requires c κs = tt
 
 add-result : tie.Need-add-result
 add-result c = omega (arith, room (c .before .before .before .before .before .before .before))
@@ -53,11 +54,11 @@ returns c =
     let p = d .put-decimal .ensures in
     let a = start d .args in (
       omega (arith, long d),
-      c .before .before .put .ensures
+      c .before .before .put-bytes .ensures
           ∙ ap₂ (λ (l : List ℕ) (n : ℕ). sets l (a .at + n) (10 ∷ [])) (p .1) (p .0)
           ∙ sym (sets-append (a .out .now) (a .at) (digits d) (10 ∷ [])),
     )
 
 pub put-number-spec : {M : Type 1} → statement M
 put-number-spec =
-    tie.close (tie.spec put-decimal-requires add-put slice-aggregate-put put-requires add-result add-result-2 same-length returns)
+    tie.close (tie.spec put-decimal-requires add-put-bytes slice-aggregate-put-bytes put-bytes-requires add-result add-result-2 same-length returns)

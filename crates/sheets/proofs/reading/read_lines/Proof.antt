@@ -8,24 +8,24 @@ use lib.Seq.{length-take-le}
 use Rattle.sheets.proofs.reading.read_lines.Statement.{statement}
 use Rattle.sheets.proofs.reading.read_lines.Tie as tie
 
-slice-aggregate-put : tie.Need-slice-aggregate-put
-slice-aggregate-put c = search needs
+slice-aggregate-put-bytes : tie.Need-slice-aggregate-put-bytes
+slice-aggregate-put-bytes c = search needs
 
-put-requires : tie.Need-put-requires
-put-requires c κs = tt
+put-bytes-requires : tie.Need-put-bytes-requires
+put-bytes-requires c κs = tt
 
-slice-aggregate-put-2 : tie.Need-slice-aggregate-put-2
-slice-aggregate-put-2 c = search needs
+slice-aggregate-put-bytes-2 : tie.Need-slice-aggregate-put-bytes-2
+slice-aggregate-put-bytes-2 c = search needs
 
-put-requires-2 : tie.Need-put-requires-2
-put-requires-2 c κs = tt
+put-bytes-requires-2 : tie.Need-put-bytes-requires-2
+put-bytes-requires-2 c κs = tt
 
 add-n : tie.Need-add-n
 add-n c = search needs
 
 array-share-prefix-text : tie.Need-array-share-prefix-text
 array-share-prefix-text c =
-    let l : length (c .before .before .before .put2 .last .0) ≡ 64 = search needs in
+    let l : length (c .before .before .before .put-bytes2 .last .0) ≡ 64 = search needs in
     omega (arith, l)
 
 slice-aggregate-read : tie.Need-slice-aggregate-read
@@ -47,10 +47,10 @@ pub read-lines-spec : {M : Type 1} → statement M
 read-lines-spec =
     tie.close
     (tie.spec
-    slice-aggregate-put
-    put-requires
-    slice-aggregate-put-2
-    put-requires-2
+    slice-aggregate-put-bytes
+    put-bytes-requires
+    slice-aggregate-put-bytes-2
+    put-bytes-requires-2
     add-n
     array-share-prefix-text
     slice-aggregate-read

@@ -14,14 +14,14 @@ Inv-loop text₀ i₀ text i = (i ≤ 65538) × (65537 ≡ length text)
 abbrev μ-loop : tie.MeasureT-loop
 μ-loop text₀ i₀ text i = 65538 - i
 
-slice-aggregate-put : tie.Need-slice-aggregate-put Inv-loop μ-loop
-slice-aggregate-put c = search needs
+slice-aggregate-put-bytes : tie.Need-slice-aggregate-put-bytes Inv-loop μ-loop
+slice-aggregate-put-bytes c = search needs
 
-slice-aggregate-put-2 : tie.Need-slice-aggregate-put-2 Inv-loop μ-loop
-slice-aggregate-put-2 c = search needs
+slice-aggregate-put-bytes-2 : tie.Need-slice-aggregate-put-bytes-2 Inv-loop μ-loop
+slice-aggregate-put-bytes-2 c = search needs
 
-put-requires : tie.Need-put-requires Inv-loop μ-loop
-put-requires c κs = tt
+put-bytes-requires : tie.Need-put-bytes-requires Inv-loop μ-loop
+put-bytes-requires c κs = tt
 
 loop-holds : tie.Need-loop-holds Inv-loop μ-loop
 loop-holds c = (omega arith, search needs)
@@ -47,9 +47,9 @@ zeros-spec =
     (tie.spec
     Inv-loop
     μ-loop
-    slice-aggregate-put
-    slice-aggregate-put-2
-    put-requires
+    slice-aggregate-put-bytes
+    slice-aggregate-put-bytes-2
+    put-bytes-requires
     loop-holds
     array-write-text
     add-i

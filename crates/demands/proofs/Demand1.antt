@@ -1,0 +1,63 @@
+-- Demand 1: each call is refused by its table, or does what it is for.
+-- Assumes nothing.
+use mathlib.Core.Path.{_≡_, refl, sym, ap, _∙_}
+use mathlib.Core.Bool.{Bool, true, false, cond, not}
+use mathlib.Core.List.{List}
+use Prim.Native.Nat.{ℕ}
+use native.Mathlib.Omega.{arith}
+use lib.IntN.{ℤ}
+use lib.ListN.{length, drop}
+use lib.Seq.{take-append-seam}
+use Rattle.calls.specs.Refusals.{firstOf, none, this, behind}
+use Rattle.calls.specs.Outcome.{accepted}
+use Rattle.tones.specs.Bands.{isBand}
+use Rattle.transmitter.specs.Samples.{idleBits, charactersBits}
+use Rattle.transmitter.specs.Calls as transmitter
+use Rattle.receiver.specs.Step.{stateAfter, eventsAfter}
+use Rattle.receiver.specs.Calls as receiver
+use Rattle.sheet.specs.Text.{sheetOf}
+use Rattle.sheet.specs.Parse.{bandIn, samplesOf}
+use Rattle.sheet.specs.Calls as sheet
+use Rattle.sheet.proofs.Calls.{readable}
+use Rattle.sheet.proofs.Inverse.{inverse}
+use Rattle.demands.specs.Answers.{Opens}
+use Rattle.demands.specs.Demand1.{WholeSheet, Demand1}
+use Rattle.demands.proofs.Answers.{answers}
+
+-- an opening, of either kind
+opens : {S : Type 0} (fresh : ℕ → S) (band : ℕ)
+    → Opens (transmitter.openTests band) fresh band (firstOf (transmitter.openTests band)) (fresh (cond (isBand band) band 1))
+opens fresh band = go (isBand band) refl
+  where
+    go : (b : Bool) → isBand band ≡ b → Opens (transmitter.openTests band) fresh band (cond (not b) 1 0) (fresh (cond b band 1))
+    go true e = record { first = behind (ap not e) none; refusal = λ h. absurd (h refl); done = λ n. refl }
+    go false e = record { first = this (ap not e); refusal = λ h. (refl, refl); done = λ n. absurd (omega arith) }
+
+pub demand-1 : Demand1
+unfolding transmitter.openOf receiver.openOf transmitter.idleOf transmitter.charactersOf receiver.blockOf sheet.readOf sheet.writeOf
+demand-1 =
+    record {
+      transmitter-opening = opens transmitter.fresh;
+      receiver-opening = opens receiver.fresh;
+      idle = λ s lent. answers _ (transmitter.idleTests s (length lent)) s lent _ (transmitter.sent s idleBits lent) refl refl (λ e. refl);
+      characters = λ s bytes lent.
+          answers _ (transmitter.charactersTests s (length bytes) (length lent)) s lent _ (transmitter.sent s (charactersBits bytes) lent) refl refl
+          (λ e. refl);
+      block = λ s c.
+          answers _ (receiver.blockTests s (c .samples) (length (c .lent))) s (c .lent) _
+          (accepted (stateAfter s (c .samples)) (eventsAfter s (c .samples)) (c .lent)) refl refl (λ e. refl);
+      sheet-reading = λ text lent.
+          answers _ (sheet.readTests text (length lent)) 0 lent _ (accepted (bandIn text) (samplesOf text) lent) refl refl (whole text lent);
+      sheet-writing = λ band samples lent.
+          answers _ (sheet.writeTests band samples (length lent)) tt lent _ (accepted tt (sheetOf band samples) lent) refl refl (λ e. refl);
+    }
+  where
+    whole : (text : List ℕ) (lent : List ℤ) → firstOf (sheet.readTests text (length lent)) ≡ 0
+        → WholeSheet text lent (accepted (bandIn text) (samplesOf text) lent)
+    whole text lent e =
+        let seen = take-append-seam (samplesOf text) (drop (length (samplesOf text)) lent) in
+        let read = inverse text (bandIn text) (samplesOf text) .0 (record { taken = readable text (length lent) e .form; band-read = refl; samples-read = refl }) in
+        record {
+          whole = read .written ∙ ap (sheetOf (bandIn text)) (sym seen);
+          given = ap (λ (xs : List ℤ). accepted (bandIn text) xs lent) (sym seen);
+        }

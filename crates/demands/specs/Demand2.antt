@@ -1,0 +1,30 @@
+-- Demand 2: the rules are the rules. Each sample is the whole number nearest to 6,000 times the sine at the sum of all steps so far, and
+-- the receiver gives exactly the events of the step rule. Decision 15; document 01, "Tones and sine", "Transmitter" and "Reader, step by
+-- step".
+-- Assumes nothing.
+use mathlib.Core.Path.{_≡_}
+use mathlib.Core.List.{List}
+use Prim.Native.Nat.{ℕ, _≤_}
+use lib.IntN.{ℤ}
+use Rattle.sine.specs.Sine.{IsSine, SineRule, S}
+use Rattle.transmitter.specs.declared.Transmitter.{Transmitter}
+use Rattle.transmitter.specs.Examples.{Examples}
+use Rattle.transmitter.specs.Lists as sending
+use Rattle.receiver.specs.declared.Receiver.{Receiver}
+use Rattle.receiver.specs.Lists as reading
+use Rattle.receiving.specs.Numbers.{numbersOf, receiverOf}
+
+pub record Demand2 : Type 0 where
+  -- S has the rule of the sine; at each phase of the first quarter the rule admits S and nothing else, and no other function has it
+  pub sine : SineRule S
+  pub nearest : (p : ℕ) (e : ℤ) → p ≤ 480 → IsSine p e → e ≡ S p
+  pub only : (f : ℕ → ℤ) → SineRule f → (p : ℕ) → f p ≡ S p
+  -- over every list of idle and characters calls, refused ones among them, sample i is S at the sum of all steps before it
+  pub samples : (s : Transmitter) (calls : List sending.Call) → sending.Continuous s calls
+  -- over every list of block calls likewise, the events are those of the step rule over all samples read
+  pub events : (s : Receiver) (calls : List reading.Call) → reading.OneReading s calls
+  pub joined-blocks : (s : Receiver) (one two : reading.Call) (lent : List ℕ) → reading.TwoBlocks s one two lent
+  -- what a caller in another language holds of a state between two calls is that state
+  pub stored : (s : Receiver) → receiverOf (numbersOf s) ≡ s
+  -- the starred examples
+  pub examples : Examples

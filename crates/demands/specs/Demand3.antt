@@ -1,0 +1,21 @@
+-- Demand 3: the guide's promise. Of two recordings of sendings, each in one of the bands with silence around it and every sample altered by
+-- at most 100, each list of events is the characters sent, no event is a fault, and the two lists are equal exactly when the characters
+-- are: over lists of calls, refused ones among them. Decision 15; document 01, "Whole recordings".
+-- Assumes nothing.
+use Rattle.margin.specs.Windows.{disturbance}
+use Rattle.promise.specs.Recordings.{Transmission}
+use Rattle.promise.specs.ReadAsSent.{ReadAsSent}
+use Rattle.promise.specs.Possible.{NotVacuous}
+use Rattle.modulator.specs.Modulate as modulate
+use Rattle.demodulator.specs.Demodulate as demodulate
+use Rattle.read_back.specs.ReadBack.{ReadBack}
+
+pub record Demand3 : Type 0 where
+  pub promise : (a b : Transmission disturbance) → ReadAsSent a b
+  -- it speaks of something: every message and every cut of it and of its recording has such calls
+  pub possible : NotVacuous
+  -- the two programs, one behind the other
+  pub programs : ReadBack
+  -- what each of them prints for its whole input, it prints for the part that it reads
+  pub sending-cut : modulate.CutInput
+  pub reading-cut : demodulate.CutInput

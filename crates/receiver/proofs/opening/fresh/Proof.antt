@@ -1,0 +1,11 @@
+-- `receiver::opening::fresh` meets its contract.
+-- Assumes nothing.
+use mathlib.Core.Path.{refl}
+use Rattle.receiver.proofs.opening.fresh.Statement.{statement}
+use Rattle.receiver.proofs.opening.fresh.Tie as tie
+
+returns : tie.Need-returns
+returns c = refl
+
+pub fresh-spec : {M : Type 1} → statement M
+fresh-spec = tie.close (tie.spec returns)

@@ -1,0 +1,16 @@
+// The fresh state of a band.
+ghost use mathlib.Core.Path.{_≡_};
+ghost use Rattle.receiver.specs.Calls.{fresh};
+use super::Receiver;
+use control::Stage;
+
+pub(crate) fn fresh(band: u8) -> Receiver
+    ensures { λ r. ⌜ r ≡ fresh band ⌝ }
+{
+    Receiver {
+        band,
+        window: [0i16; 32],
+        run: 0,
+        stage: Stage::Searching,
+    }
+}
