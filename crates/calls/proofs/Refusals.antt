@@ -29,11 +29,6 @@ none-holds (t ∷ ts) (p, ps) e = go (t .holds) refl e (none-holds ts ps)
     go true h e r = absurd (omega (arith, ltb→lt 0 (t .number) p))
     go false h e r = more h (r e)
 
--- and the other way round
-pub none-first : (ts : List Test) → NoneHolds ts → firstOf ts ≡ 0
-none-first [] none = refl
-none-first (t ∷ ts) (more h hs) = rw h (none-first ts hs)
-
 -- the first that holds gives its number
 pub first-holds : (before : List Test) (t : Test) (later : List Test) → NoneHolds before → t .holds ≡ true
     → firstOf (before ++ t ∷ later) ≡ t .number

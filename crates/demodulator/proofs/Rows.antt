@@ -1,26 +1,22 @@
 -- The table of kinds: every event that a receiver reports has its row there, and what is known of a number that has one.
 -- Assumes nothing.
 use mathlib.Core.Path.{_≡_, refl}
-use mathlib.Core.Bool.{Bool, true, false, _&&_, _||_, false≢true}
+use mathlib.Core.Bool.{Bool, true, _&&_, _||_, false≢true}
 use mathlib.Core.List.{List, [], _∷_}
 use mathlib.Mathlib.Data.Bool.Basic.{and-elim-left, and-elim-right}
-use Prim.Native.Nat.{ℕ, zero, suc, _<_, _≤_, zero-le}
+use Prim.Native.Nat.{ℕ, _<_, _≤_, zero-le}
 use native.Mathlib.Omega.{arith}
 use borrow.Author.Tests.{le-leb, ltb-true, leb-true, eqb-true}
 use lib.Dec.{ltb, leb, eqb}
 use lib.IntN.{ℤ}
-use lib.ListN.{length, getD}
 use Rattle.integers.specs.All.{All, none, more}
+use Rattle.integers.proofs.Tests.{or-case}
 use Rattle.control.specs.Rules.{noStop, carrierLost, isEvent}
 use Rattle.receiver.specs.declared.Receiver.{Receiver}
 use Rattle.receiver.specs.Step.{eventsAfter}
 use Rattle.receiver.specs.Calls.{inRange}
 use Rattle.receiver.proofs.Events.{events-known}
 use Rattle.demodulator.specs.Lines.{Kind, kinds, hasRow, hasKind, HaveKinds}
-
-or-case : {P : Type 0} (a b : Bool) → (a ≡ true → P) → (b ≡ true → P) → (a || b) ≡ true → P
-or-case true b p q h = p refl
-or-case false b p q h = q h
 
 -- ---- events have rows
 
@@ -45,12 +41,6 @@ pub reported-kinds : (s : Receiver) (xs : List ℤ) → inRange s ≡ true → H
 reported-kinds s xs h = event-rows (events-known s xs h)
 
 -- ---- numbers that have rows
-
--- one of a list
-pub kind-at : (events : List ℕ) (place : ℕ) → place < length events → HaveKinds events → hasKind (getD events place 0) ≡ true
-kind-at [] place l h = absurd (omega arith)
-kind-at (n ∷ ns) zero l (more h hs) = h
-kind-at (n ∷ ns) (suc place) l (more h hs) = kind-at ns place (omega arith) hs
 
 -- what holds of the numbers of every row holds of a number that has one
 has-row : {P : Type 0} (ks : List Kind) (n : ℕ) → All (λ k. k .first ≤ n → n ≤ k .last → P) ks → hasRow ks n ≡ true → P

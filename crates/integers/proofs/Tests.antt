@@ -1,7 +1,7 @@
 -- Tests that antt computes over a list or a range, and what each gives at every place; and proofs by the cases of a choice.
 -- Assumes nothing.
 use mathlib.Core.Path.{_≡_, refl, _∙_, ap}
-use mathlib.Core.Bool.{Bool, true, false, cond, _&&_, false≢true}
+use mathlib.Core.Bool.{Bool, true, false, cond, _&&_, _||_, false≢true}
 use mathlib.Core.List.{List, [], _∷_}
 use mathlib.Core.Logic.{_⊎_, inl, inr}
 use mathlib.Mathlib.Data.Bool.Basic.{and-elim-left, and-elim-right}
@@ -27,6 +27,11 @@ cond-case P b x y p q = cond-split P b x y (λ e. p) (λ e. q)
 pub cond-both : {A B : Type 0} (P : A → B → Type 0) (b : Bool) {x y : A} {u v : B} → (b ≡ true → P x u) → (b ≡ false → P y v) → P (cond b x y) (cond b u v)
 cond-both P true p q = p refl
 cond-both P false p q = q refl
+
+-- what follows from either of two tests, if one of them holds
+pub or-case : {P : Type 0} (a b : Bool) → (a ≡ true → P) → (b ≡ true → P) → (a || b) ≡ true → P
+or-case true b p q h = p refl
+or-case false b p q h = q h
 
 -- what follows if m is below n, and if it is not
 pub lt-or-le : {P : Type 0} (m n : ℕ) → (m < n → P) → (n ≤ m → P) → P

@@ -17,7 +17,7 @@ use Rattle.tones.specs.Bands.{isBand}
 use Rattle.tones.specs.Samples.{mostSamples}
 use Rattle.transmitter.specs.Calls.{mostCharacters}
 use Rattle.message.specs.Message.{samplesFor}
-use Rattle.loopback.specs.Loopback.{Lists, isSize, areDisturbances, isRoom, loopbackTests, readBack, loopbackOf}
+use Rattle.loopback.specs.Loopback.{Lists, isSize, areDisturbances, isRoom, loopbackTests, acceptedLoopback, loopbackOf}
 
 -- ---- what holds when nothing is refused
 
@@ -82,8 +82,8 @@ module _ (band : ℕ) (characters : List ℕ) (added : List ℤ) (size : ℕ) (l
 
   pub loopback-refused : (n : ℕ) → n ≡ firstOf asked → (n ≡ 0 → ⊥) → refused n tt lent ≡ loopbackOf band characters added size lent
   unfolding loopbackOf
-  loopback-refused = is-refused asked tt lent (readBack band characters added lent)
+  loopback-refused = is-refused asked tt lent (acceptedLoopback band characters added lent)
 
-  pub loopback-accepted : firstOf asked ≡ 0 → readBack band characters added lent ≡ loopbackOf band characters added size lent
+  pub loopback-accepted : firstOf asked ≡ 0 → acceptedLoopback band characters added lent ≡ loopbackOf band characters added size lent
   unfolding loopbackOf
-  loopback-accepted e = sym (not-refused asked tt lent (readBack band characters added lent) e)
+  loopback-accepted e = sym (not-refused asked tt lent (acceptedLoopback band characters added lent) e)

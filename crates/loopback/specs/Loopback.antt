@@ -51,8 +51,8 @@ loopbackTests band characters added size samples events =
     ∷ []
 
 -- accepted: the events are the characters, and the samples are left as they were read
-abbrev pub readBack : (band : ℕ) (characters : List ℕ) (added : List ℤ) → Lists → Outcome Unit Lists
-readBack band characters added lent =
+abbrev pub acceptedLoopback : (band : ℕ) (characters : List ℕ) (added : List ℤ) → Lists → Outcome Unit Lists
+acceptedLoopback band characters added lent =
     record {
       number = 0;
       count = length characters;
@@ -63,4 +63,4 @@ readBack band characters added lent =
 unfoldable pub loopbackOf : (band : ℕ) (characters : List ℕ) (added : List ℤ) (size : ℕ) → Lists → Outcome Unit Lists
 loopbackOf band characters added size lent =
     unlessRefused (loopbackTests band (length characters) added size (length (lent .samples)) (length (lent .events))) tt lent
-    (readBack band characters added lent)
+    (acceptedLoopback band characters added lent)

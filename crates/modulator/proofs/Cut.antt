@@ -5,10 +5,10 @@ use mathlib.Core.Bool.{Bool, true, false, cond, not}
 use mathlib.Core.List.{List, [], _∷_}
 use Prim.Native.Nat.{ℕ, suc, _-_, _<_}
 use native.Mathlib.Omega.{arith}
-use borrow.Author.Tests.{lt-ltb, leb-true, leb-false}
-use lib.Dec.{leb}
-use lib.ListN.{length, take}
-use lib.Seq.{take-all, length-take-le}
+use borrow.Author.Tests.{lt-ltb}
+use lib.ListN.{length, take, length-take}
+use lib.Seq.{take-all}
+use Rattle.integers.proofs.Tests.{lt-or-le}
 use Rattle.tones.specs.Bands.{isBand}
 use Rattle.transmitter.specs.Calls.{mostCharacters}
 use Rattle.digits.specs.Numbers.{isDigit}
@@ -29,14 +29,10 @@ too-long band bytes h =
     not-none false e = omega arith
 
 cut-bytes : (band : ℕ) (bytes : List ℕ) → sendingOf band (take (suc mostCharacters) bytes) ≡ sendingOf band bytes
-cut-bytes band bytes = go (leb (length bytes) (suc mostCharacters)) refl
-  where
-    go : (b : Bool) → leb (length bytes) (suc mostCharacters) ≡ b → sendingOf band (take (suc mostCharacters) bytes) ≡ sendingOf band bytes
-    go true e = ap (sendingOf band) (take-all (suc mostCharacters) bytes (leb-true (length bytes) (suc mostCharacters) e))
-    go false e =
-        let h = leb-false (length bytes) (suc mostCharacters) e in
-        too-long band (take (suc mostCharacters) bytes) (omega (arith, length-take-le (suc mostCharacters) bytes (omega arith)))
-        ∙ sym (too-long band bytes (omega arith))
+cut-bytes band bytes =
+    lt-or-le mostCharacters (length bytes)
+    (λ h. too-long band (take (suc mostCharacters) bytes) (omega (arith, length-take (suc mostCharacters) bytes)) ∙ sym (too-long band bytes h))
+    (λ h. ap (sendingOf band) (take-all (suc mostCharacters) bytes (omega arith)))
 
 pub cut-input : CutInput
 unfolding modulated

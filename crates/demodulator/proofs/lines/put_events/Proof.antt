@@ -7,8 +7,8 @@ use native.Mathlib.Omega.{arith}
 use borrow.Author.Needs.{needs}
 use lib.ListN.{length}
 use lib.Seq.{sets, length-sets}
+use Rattle.integers.proofs.All.{all-at}
 use Rattle.demodulator.specs.Lines.{eventLines, namesLine}
-use Rattle.demodulator.proofs.Rows.{kind-at}
 use Rattle.demodulator.proofs.Printed.{text-most, text-parts, Printed, printed-start, printed-room, printed-more, printed-count, printed-end}
 use Rattle.demodulator.proofs.lines.put_events.Statement.{statement}
 use Rattle.demodulator.proofs.lines.put_events.Tie as tie
@@ -41,7 +41,7 @@ put-event-requires : tie.Need-put-event-requires Inv-loop μ-loop
 put-event-requires c κs =
     let l = c .before .before .before .loop in
     let start = c .before .before .before .before .before .before .before .before .before .before .before in
-    (kind-at _ _ (omega arith) (start .pre .1 .0), printed-room _ _ _ _ _ (l .inv .1) (omega arith) (start .pre .0))
+    (all-at _ _ _ (omega arith) (start .pre .1 .0), printed-room _ _ _ _ _ (l .inv .1) (omega arith) (start .pre .0))
 
 add-place : tie.Need-add-place Inv-loop μ-loop
 add-place c = omega arith
