@@ -1,10 +1,11 @@
-/* The modem's calls: the sine and the transmitter, from target/staticlib/libsending.a (`rt staticlib sending`), and the receiver,
- * from target/staticlib/libreceiving.a (`rt staticlib receiving`).
+/* The modem's calls. `./run lib` makes target/lib/libmodem.a and target/lib/libmodem.so, and puts this file beside them.
  *
- * A state is the numbers of its fields, which a call is lent and leaves as the next state. A list is a pointer and a
- * length, and the places of one call must not overlap. Each call but the first two returns 0, or the number of a refusal
- * (docs/CALLS.md): it then stores count 0, leaves the state as it was and writes nothing else. A refused opening stores the fresh
- * state of band 1.
+ * Each answer has a number, 0 if the call was accepted and otherwise why it was refused, and a count of the places that were
+ * filled at the front of the list; those behind them are untouched. A refused call gives the state back exactly as it was handed
+ * in, count 0, and writes nothing.
+ *
+ * A state goes in by value, and the answer has the next one. A list is a pointer and a length, and the lists of one call must
+ * not overlap. The calls keep nothing between them and allocate nothing.
  */
 #ifndef MODEM_H
 #define MODEM_H
@@ -16,44 +17,117 @@
 extern "C" {
 #endif
 
+/* The numbers of the refusals; docs/SPECIFICATION.md has the order in which each call looks for them. */
+#define MODEM_ACCEPTED 0
+#define MODEM_NO_BAND 1       /* the band is not 1 or 2 */
+#define MODEM_BAD_STATE 2     /* a field of the state is out of its range */
+#define MODEM_TOO_MANY 3      /* too many characters or samples, or a block size of 0 or over MODEM_MOST_SAMPLES */
+#define MODEM_TOO_SHORT 4     /* a list has too few places, or too few numbers to add */
+#define MODEM_OUT_OF_RANGE 5  /* a sample or a disturbance is out of its range */
+#define MODEM_SHEET_TOO_LONG 6
+#define MODEM_NO_SHEET 7      /* the text has not the form of a sheet */
+
 #define MODEM_BIT_SAMPLES 32
 #define MODEM_IDLE_SAMPLES (3 * MODEM_BIT_SAMPLES)
 #define MODEM_CHARACTER_SAMPLES (10 * MODEM_BIT_SAMPLES)
-#define MODEM_MOST_CHARACTERS 100
-#define MODEM_MOST_SAMPLES 16384
-/* The places that a block of n samples needs for its events. */
+#define MODEM_MOST_CHARACTERS 100   /* in one call */
+#define MODEM_MOST_SAMPLES 16384    /* in one block or sheet */
+#define MODEM_MOST_SHEET_BYTES 65536
+#define MODEM_LARGEST_SAMPLE 8191   /* either way */
+#define MODEM_DISTURBANCE 100       /* the most that a line may add to a sample, either way */
+
+/* The samples of a message of n characters, and the places that a block of n samples needs for its events. */
+#define MODEM_MESSAGE_SAMPLES(n) (2 * MODEM_IDLE_SAMPLES + MODEM_CHARACTER_SAMPLES * (n))
 #define MODEM_EVENT_PLACES(n) ((n) / 48 + 1)
 
 /* An event below 256 is a character. */
 #define MODEM_NO_STOP 256
 #define MODEM_CARRIER_LOST 257
 
-/* The whole numbers nearest to 6,000 times the sine and the cosine of any phase, in 1,920ths of a cycle. */
-int16_t modem_sine(size_t phase);
-int16_t modem_cosine(size_t phase);
+typedef struct {
+    uint8_t number;
+    size_t count;
+} modem_answer;
 
-uint8_t modem_transmitter_open(uint8_t wanted, uint8_t *band, uint16_t *phase);
+/* The transmitter: `phase` is that of the next sample, in 1,920ths of a cycle. */
+typedef struct {
+    uint8_t band;
+    uint16_t phase;
+} modem_transmitter;
 
-/* Three mark bits: the leader or the trailer of a message. */
-uint8_t modem_transmitter_idle(uint8_t *band, uint16_t *phase,
-                               int16_t *out, size_t out_len, size_t *count);
+typedef struct {
+    uint8_t number;
+    modem_transmitter transmitter;
+} modem_transmitter_opened;
 
-uint8_t modem_transmitter_characters(uint8_t *band, uint16_t *phase,
-                                     const uint8_t *bytes, size_t bytes_len,
-                                     int16_t *out, size_t out_len, size_t *count);
+typedef struct {
+    modem_transmitter transmitter;
+    uint8_t number;
+    size_t count; /* of samples */
+} modem_sent;
 
-/* The stage is 0, 0, 0, 0 while the receiver searches, and 1, wait, slot, byte while it waits for a bit. */
-uint8_t modem_receiver_open(uint8_t wanted, uint8_t *band, int16_t window[32], uint8_t *run, uint8_t stage[4]);
+/* A fresh transmitter; that of band 1 if the band is refused. */
+modem_transmitter_opened modem_transmitter_open(uint8_t band);
 
-/* The count is that of the events. */
-uint8_t modem_receiver_block(uint8_t *band, int16_t window[32], uint8_t *run, uint8_t stage[4],
-                             const int16_t *samples, size_t samples_len,
-                             uint16_t *events, size_t events_len, size_t *count);
+/* Sends three mark bits, the leader or the trailer of a message. */
+modem_sent modem_transmitter_idle(modem_transmitter transmitter, int16_t *out, size_t places);
 
-/* The same call through the receiver's second entry. */
-uint8_t modem_receiver_block_lent(uint8_t *band, int16_t window[32], uint8_t *run, uint8_t stage[4],
-                                  const int16_t *samples, size_t samples_len,
-                                  uint16_t *events, size_t events_len, size_t *count);
+/* Sends each byte as a start bit, eight data bits and a stop bit. */
+modem_sent modem_transmitter_characters(modem_transmitter transmitter, const uint8_t *bytes, size_t n,
+                                        int16_t *out, size_t places);
+
+/* The receiver: the last 32 samples, oldest first; for how many samples in a row the level has been good, at most 32; and the
+ * stage. At stage 0 it searches, and wait, slot and byte are 0. At stage 1 it waits `wait` samples for the bit `slot` (0 start,
+ * 1 to 8 data, 9 stop), and `byte` has the data bits so far. There is no other stage. */
+typedef struct {
+    uint8_t band;
+    int16_t window[32];
+    uint8_t run;
+    uint8_t stage;
+    uint8_t wait;
+    uint8_t slot;
+    uint8_t byte;
+} modem_receiver;
+
+typedef struct {
+    uint8_t number;
+    modem_receiver receiver;
+} modem_receiver_opened;
+
+typedef struct {
+    modem_receiver receiver;
+    uint8_t number;
+    size_t count; /* of events */
+} modem_block;
+
+/* A fresh receiver; that of band 1 if the band is refused. */
+modem_receiver_opened modem_receiver_open(uint8_t band);
+
+/* Reads the next samples of a recording. Where it is cut into blocks makes no difference to the events. */
+modem_block modem_receiver_block(modem_receiver receiver, const int16_t *samples, size_t n,
+                                 uint16_t *events, size_t places);
+
+/* Sends a whole message from a fresh transmitter: leader, characters and trailer. The count is of samples. */
+modem_answer modem_message_send(uint8_t band, const uint8_t *bytes, size_t n, int16_t *out, size_t places);
+
+/* Sends a message, adds to each sample the number at its place of `disturbance`, and reads the result in blocks of `block`
+ * samples. The samples as they were read and the events, which are the bytes of the message, go to the two lists. The count is
+ * of events. */
+modem_answer modem_loopback(uint8_t band, const uint8_t *bytes, size_t n,
+                            const int16_t *disturbance, size_t numbers, size_t block,
+                            int16_t *samples, size_t sample_places, uint16_t *events, size_t event_places);
+
+typedef struct {
+    uint8_t number;
+    uint8_t band; /* 0 if the sheet is refused */
+    size_t count; /* of samples */
+} modem_sheet;
+
+/* Reads a sheet, a recording as text. */
+modem_sheet modem_sheet_read(const uint8_t *text, size_t bytes, int16_t *samples, size_t places);
+
+/* Writes the sheet of a band and samples. The count is of bytes; no NUL is put behind them. */
+modem_answer modem_sheet_write(uint8_t band, const int16_t *samples, size_t n, uint8_t *text, size_t places);
 
 #ifdef __cplusplus
 }

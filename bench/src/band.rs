@@ -1,12 +1,11 @@
 //! The tables of a band.
 
 use crate::entry::{self, Entry};
-use crate::minimodem::{self, Minimodem};
-use crate::readers::{self, Block, BLOCK};
-use crate::recording::Recording;
-#[cfg(feature = "spandsp")]
-use crate::spandsp::Spandsp;
 use crate::table::{Bar, Unit};
+use bench::minimodem::{self, Minimodem};
+use bench::readers::{self, Block, BLOCK};
+use bench::recording::Recording;
+use bench::spandsp;
 use reference::sine::Sines;
 use reference::{asked_windows, in_place, shifted_window};
 use std::path::Path;
@@ -86,7 +85,7 @@ impl Band<'_> {
         entries.push(self.same_method(long));
         entries.push(peer(IN_PLACE, 4.0));
         entries.push(peer(SHIFTED_WINDOW, 8.0));
-        entries.extend(spandsp("spandsp", long, BLOCK, Bar::at_least(10.0)));
+        entries.extend(spandsp(long, BLOCK, Bar::at_least(10.0)));
         entries.extend(self.minimodem(long, Bar::at_least(14.0)));
         self.print(&format!("{} characters", LENGTHS[0]), Unit::Speed, &entries)
     }
@@ -95,13 +94,13 @@ impl Band<'_> {
         let in_place = self.peer(IN_PLACE, silence, BLOCK);
         let mut entries = vec![library(silence), self.same_method(silence)];
         entries.push(in_place.with(Bar::at_least(12.0)));
-        entries.extend(spandsp("spandsp", silence, BLOCK, Bar::at_least(25.0)));
+        entries.extend(spandsp(silence, BLOCK, Bar::at_least(25.0)));
         self.print("silence", Unit::Speed, &entries)
     }
 
     fn noise(&self, noise: &Recording) -> bool {
         let mut entries = vec![library(noise), self.same_method(noise)];
-        entries.extend(spandsp("spandsp", noise, BLOCK, Bar::at_least(5.0)));
+        entries.extend(spandsp(noise, BLOCK, Bar::at_least(5.0)));
         self.print("noise", Unit::Speed, &entries)
     }
 
@@ -112,13 +111,13 @@ impl Band<'_> {
         let in_place = self.peer(IN_PLACE, mark, BLOCK);
         let mut entries = vec![library(mark), same.with(Bar::at_least(0.95))];
         entries.push(in_place.with(Bar::at_least(1.0)));
-        entries.extend(spandsp("spandsp", mark, BLOCK, Bar::at_least(1.7)));
+        entries.extend(spandsp(mark, BLOCK, Bar::at_least(1.7)));
         self.print("idle mark", Unit::Speed, &entries)
     }
 
     fn small_blocks(&self, long: &Recording) -> bool {
         let mut entries = vec![in_blocks(SMALL, long)];
-        entries.extend(spandsp("spandsp", long, SMALL, Bar::at_least(2.5)));
+        entries.extend(spandsp(long, SMALL, Bar::at_least(2.5)));
         self.print(&format!("blocks of {SMALL}"), Unit::Speed, &entries)
     }
 
@@ -173,12 +172,7 @@ fn in_blocks(size: usize, recording: &Recording) -> Entry<'_> {
 }
 
 /// None where spandsp is not installed.
-#[cfg(feature = "spandsp")]
-fn spandsp<'a>(name: &str, recording: &'a Recording, size: usize, bar: Bar) -> Option<Entry<'a>> {
-    Some(Entry::new(name, Spandsp { size }, recording).with(bar))
-}
-
-#[cfg(not(feature = "spandsp"))]
-fn spandsp<'a>(_: &str, _: &'a Recording, _: usize, _: Bar) -> Option<Entry<'a>> {
-    None
+fn spandsp(recording: &Recording, size: usize, bar: Bar) -> Option<Entry<'_>> {
+    let reader = spandsp::reader(size)?;
+    Some(Entry::new("spandsp", reader, recording).with(bar))
 }

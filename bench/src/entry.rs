@@ -1,9 +1,9 @@
 //! What a line of a table measures.
 
-use crate::readers::{Reader, Reading};
-use crate::recording::Recording;
-use crate::score::Score;
 use crate::table::{self, Bar, Row, Unit};
+use bench::readers::{Reader, Reading};
+use bench::recording::Recording;
+use bench::score::Score;
 use std::time::Instant;
 
 /// How many rounds a table takes at least, and how many seconds: so something

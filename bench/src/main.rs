@@ -9,20 +9,14 @@
 #![deny(unsafe_code)]
 
 mod band;
-mod clock;
 mod entry;
-mod minimodem;
-mod readers;
-mod recording;
-mod score;
-#[cfg(feature = "spandsp")]
-mod spandsp;
 mod table;
 
 use band::{Band, SAMPLES};
+use bench::minimodem;
+use bench::readers::BLOCK;
+use bench::recording::{DISTURBANCE, SEED};
 use entry::{ROUNDS, SECONDS};
-use readers::BLOCK;
-use recording::{DISTURBANCE, SEED};
 use reference::receiver::LARGEST_SAMPLE;
 use reference::sine::Sines;
 use std::env;

@@ -1,5 +1,5 @@
 //! What reads a recording, and the readers that take it block by block and
-//! answer as document 01 says: the library, and the loops of the reference.
+//! answer as the specification says: the library, and the loops of the reference.
 
 use crate::clock::{self, Of};
 use crate::recording::Recording;

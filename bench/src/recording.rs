@@ -16,7 +16,7 @@ const BYTES_PER_SAMPLE: u32 = 2;
 pub struct Recording {
     pub band: u8,
     pub samples: Vec<i16>,
-    /// What document 01's rule makes of it.
+    /// What the specification's rule makes of it.
     pub events: Vec<u16>,
     /// The characters of a sending.
     pub message: Option<Vec<u8>>,

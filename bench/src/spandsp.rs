@@ -21,7 +21,12 @@ extern "C" {
 
 /// Takes this many samples in a call.
 pub struct Spandsp {
-    pub size: usize,
+    size: usize,
+}
+
+/// None where spandsp is not installed, which is here.
+pub fn reader(size: usize) -> Option<Spandsp> {
+    Some(Spandsp { size })
 }
 
 impl Reader for Spandsp {

@@ -1,6 +1,6 @@
 //! A table: speeds, their ratios, and whether each ratio keeps its bar.
 
-use crate::score::Score;
+use bench::score::Score;
 use std::fmt;
 
 /// From where to where a ratio may be.

@@ -1,5 +1,5 @@
 //! A second modem to compare the first with: the sine, the transmitter, the
-//! receiver, the sheet and the two programs, written from document 01 and from
+//! receiver, the sheet and the two programs, written from the specification and from
 //! none of the product's code.
 //! Decision 16 of `docs/DECISIONS.md` says what else was known.
 //! The tests in `tests/` compare it with the static library and the programs.
@@ -7,6 +7,7 @@
 //! written for speed, the last by the method of the product's code; the benchmark
 //! measures the library beside them.
 //! `picture` draws `docs/windows.svg` from the same sine, transmitter and sums.
+//! `must_fail` makes the tables of `docs/MUST-FAIL.md`, and has nothing of a modem.
 
 #![deny(unsafe_code)]
 
@@ -14,6 +15,7 @@ pub mod asked_windows;
 pub mod disturbance;
 pub mod in_place;
 pub mod library;
+pub mod must_fail;
 mod natural;
 pub mod picture;
 pub mod programs;

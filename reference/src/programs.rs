@@ -1,4 +1,4 @@
-//! The programs of document 01: from the bytes of standard input to those of
+//! The programs of the specification: from the bytes of standard input to those of
 //! standard output.
 
 use crate::receiver::{self, places_needed, CARRIER_LOST, MOST_SAMPLES, NO_STOP_BIT};

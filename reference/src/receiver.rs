@@ -1,4 +1,4 @@
-//! The receiver of document 01, which it calls the reader, step by step.
+//! The receiver of the specification, which it calls the reader, step by step.
 
 use crate::sine::Sines;
 use crate::transmitter::{is_band, STEPS};
@@ -17,7 +17,7 @@ pub const GOOD_ENERGY: i64 = 32_400_000_000_000_000;
 pub const NO_STOP_BIT: u16 = 256;
 pub const CARRIER_LOST: u16 = 257;
 
-/// What document 01 calls the moment is the slot here: 0 start, 1 to 8 data,
+/// What the specification calls the moment is the slot here: 0 start, 1 to 8 data,
 /// 9 stop.
 #[derive(Clone, Copy, Debug, PartialEq, Eq)]
 pub enum Stage {

@@ -1,4 +1,4 @@
-//! The sheet of document 01: a band and samples as text.
+//! The sheet of the specification: a band and samples as text.
 
 use crate::receiver::{is_sample, MOST_SAMPLES};
 use crate::transmitter::is_band;

@@ -1,4 +1,4 @@
-//! The sine by document 01's rule, in whole numbers only.
+//! The sine by the specification's rule, in whole numbers only.
 
 use crate::natural::Natural;
 

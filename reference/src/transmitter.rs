@@ -1,4 +1,4 @@
-//! The transmitter of document 01, sample by sample.
+//! The transmitter of the specification, sample by sample.
 
 use crate::sine::Sines;
 

@@ -1,50 +1,95 @@
-//! The rule of one sample, over many runs, stages and decisions, against the
-//! line that the program `examples` prints of it.
+//! The rule of one sample, over every run, stage and decision: a block of one
+//! sample, whose window is made for the decision.
 
-use crate::common::process::output_file;
-use reference::receiver::{moved_by, Stage};
+use crate::common::receiver::WINDOW;
+use crate::common::states::{byte_limit, longest_wait, steps};
+use crate::common::{sines, BANDS};
+use reference::library::{receiver_block, Numbers};
+use reference::receiver::{moved_by, State};
 
-/// The search, and waits of which some are out of their ranges.
-fn stages() -> Vec<Stage> {
-    let mut stages = vec![Stage::Searching];
-    for wait in 0..=33 {
-        for slot in 0..=10 {
-            for byte in [0, 1, 127, 128, 255] {
-                stages.push(Stage::Waiting { wait, slot, byte });
+/// Every stage in its ranges, with some of the bytes: the search, and waits.
+fn stages() -> Vec<[u8; 4]> {
+    let mut stages = vec![[0; 4]];
+    for slot in 0..=9 {
+        let limit = byte_limit(slot);
+        for wait in 1..=longest_wait(slot) {
+            for byte in [0, 1, 127, 128, limit / 2, limit - 1] {
+                if byte < limit {
+                    stages.push([1, wait, slot, byte as u8]);
+                }
             }
         }
     }
     stages
 }
 
-/// What a run, a stage and an event add to the sum, in order. One more than a
-/// wait or an event, since 0 says that there is none.
-fn numbers((run, stage, event): (u8, Stage, Option<u16>)) -> Vec<u64> {
-    let mut numbers = vec![u64::from(run)];
-    match stage {
-        Stage::Searching => numbers.push(0),
-        Stage::Waiting { wait, slot, byte } => {
-            numbers.extend([u64::from(wait) + 1, slot.into(), byte.into()]);
-        }
-    }
-    numbers.push(event.map_or(0, |number| u64::from(number) + 1));
-    numbers
+/// 32 samples of a tone, and what the energies of space and mark in them decide:
+/// whether the level is good, and whether space is above mark.
+fn windows(band: u8) -> [([i16; WINDOW], bool, bool); 5] {
+    let [space, mark] = steps(band);
+    let tone = |step, of| std::array::from_fn(|place| sines().s(place * step) / of);
+    [
+        (tone(space, 1), true, true),
+        (tone(mark, 1), true, false),
+        (tone(space, 4), false, true),
+        (tone(mark, 4), false, false),
+        ([0; WINDOW], false, false),
+    ]
+}
+
+/// Reads the last sample of a window from the state that has the others.
+fn check(
+    band: u8,
+    run: u8,
+    stage: [u8; 4],
+    window: &[i16; WINDOW],
+    good: bool,
+    space: bool,
+) -> bool {
+    let mut before = [5; WINDOW];
+    before[1..].copy_from_slice(&window[..WINDOW - 1]);
+    let [stage, wait, slot, byte] = stage;
+    let handed = Numbers {
+        band,
+        window: before,
+        run,
+        stage,
+        wait,
+        slot,
+        byte,
+    };
+    let (run, stage, event) = moved_by(run, State::from(handed).stage, good, space);
+    let next = State {
+        band,
+        window: *window,
+        run,
+        stage,
+    };
+    let mut events = [9_999];
+    let found = receiver_block(handed, &window[WINDOW - 1..], &mut events);
+    let what = format!("{handed:?}, {good}, {space}");
+    assert_eq!(found.state, next.into(), "{what}");
+    assert_eq!(
+        (found.number, found.count),
+        (0, usize::from(event.is_some())),
+        "{what}"
+    );
+    assert_eq!(events, [event.unwrap_or(9_999)], "{what}");
+    event.is_some()
 }
 
 #[test]
-fn the_line_of_control() {
-    let (mut count, mut sum) = (0, 0);
-    for run in 0..=33 {
-        for stage in stages() {
-            for (good, space) in [(false, false), (false, true), (true, false), (true, true)] {
-                count += 1;
-                for number in numbers(moved_by(run, stage, good, space)) {
-                    sum = (sum * 31 + number) % 65_521;
+fn every_run_stage_and_decision() {
+    let (mut count, mut reported) = (0, 0);
+    for band in BANDS {
+        for (window, good, space) in windows(band) {
+            for run in 0..=32 {
+                for stage in stages() {
+                    count += 1;
+                    reported += usize::from(check(band, run, stage, &window, good, space));
                 }
             }
         }
     }
-    let printed = String::from_utf8(output_file("examples")).expect("it is text");
-    let line = printed.lines().find(|line| line.starts_with("control "));
-    assert_eq!(line, Some(&*format!("control {count} {sum}")));
+    assert!(count > 300_000 && reported > 5_000, "{count}, {reported}");
 }

@@ -1,6 +1,8 @@
-//! The tables in `docs/MUST-FAIL.md`: each must-fail edit has one row under its
-//! crate's heading, and each public function has two edits of its crate or more.
+//! `docs/MUST-FAIL.md`: its tables of edits are those that the command makes, each
+//! edit has one row, and each public function has two edits of its crate or more.
 
+use crate::common::made::assert_made;
+use reference::must_fail::{self, quoted, row, MARKER};
 use std::fs;
 use std::path::{Path, PathBuf};
 
@@ -13,21 +15,17 @@ struct Row {
     heading: String,
     first: String,
     second: Vec<String>,
-    last: Vec<String>,
 }
 
-/// The texts between backquotes.
-fn quoted(text: &str) -> Vec<String> {
-    let parts = text.split('`').skip(1).step_by(2);
-    parts.map(String::from).collect()
+fn document() -> String {
+    fs::read_to_string(format!("{ROOT}/docs/MUST-FAIL.md")).expect("the document")
 }
 
-/// Every row of every table, with what its first, second and last cell quote.
+/// Every row of every table, with what its first and second cell quote.
 fn rows() -> Vec<Row> {
-    let text = fs::read_to_string(format!("{ROOT}/docs/MUST-FAIL.md")).expect("the document");
     let mut heading = String::new();
     let mut rows = Vec::new();
-    for line in text.lines() {
+    for line in document().lines() {
         if let Some(words) = line.strip_prefix("## ") {
             heading = words.replace('`', "");
         } else if line.starts_with("| `") {
@@ -36,7 +34,6 @@ fn rows() -> Vec<Row> {
                 heading: heading.clone(),
                 first: quoted(cells[1]).swap_remove(0),
                 second: quoted(cells[2]),
-                last: quoted(cells[cells.len() - 2]),
             });
         }
     }
@@ -91,45 +88,68 @@ fn each_edit_has_one_row() {
     same(&named.collect::<Vec<_>>(), &edits());
 }
 
-/// The proof and the step at which the first error of a log stands. There is no
-/// such step if the edit only made another of the code's shape.
-fn first_error(log: &str) -> Option<[String; 2]> {
-    let line = log.lines().find(|line| line.contains(": error: "))?;
-    let (place, message) = line.split_once(": error: ")?;
-    let (_, path) = place.rsplit_once("/proofs/")?;
-    let proof = path.split(".antt").next()?.trim_end_matches("/Proof");
-    let step = quoted(message).into_iter().next()?;
-    let is_gone = message.contains("that can be named from here");
-    (!is_gone).then(|| [proof.trim_start_matches('+').into(), step])
+/// The gate tries all edits before it runs the tests, so each has its log there.
+#[test]
+fn the_tables_are_what_the_command_makes() {
+    let made = must_fail::document(Path::new(ROOT));
+    let made = made.unwrap_or_else(|faults| panic!("{faults}"));
+    assert_made(&document(), &made, "must_fail");
+}
+
+/// What is written by hand is kept, so the functions have to stand above the line.
+#[test]
+fn the_functions_stand_above_the_tables() {
+    let text = document();
+    let (above, below) = text.split_once(MARKER).expect("the line");
+    let heading = format!("\n## {FUNCTIONS}\n");
+    assert!(above.contains(&heading) && !below.contains(&heading));
+}
+
+const EDIT: &str = "Nothing is\nput.\nWhy: a | b, not c\nfile: src/lib.rt\nold: put\nnew: b\n";
+const PLACE: &str = "/copy/proofs/+table/put/Proof.antt:22:30";
+
+fn log() -> String {
+    format!("note\n{PLACE}: error: `loop`: the types `a` and `b`\n{PLACE}: error: `end`\n")
+}
+
+#[test]
+fn a_row_has_the_words_of_the_edit_and_the_step_of_the_log() {
+    let expected = "| `none` | Nothing is put. | `table/put`, `loop`: a \\| b, not c |\n";
+    assert_eq!(row("none", EDIT, Some(&log())), Ok(expected.into()));
+    let read = EDIT.replace("Why:", "Why (read in the proof):");
+    let expected = expected.replace("`none`", "`none` †");
+    assert_eq!(row("none", &read, Some(&log())), Ok(expected));
+}
+
+#[test]
+fn an_edit_without_its_words_is_refused() {
+    for (edit, fault) in [
+        ("file: src/lib.rt\n", "no sentence"),
+        ("Why: a, not b\nfile: src/lib.rt\n", "no sentence"),
+        (&EDIT.replace("Nothing", "nothing"), "no sentence"),
+        (&EDIT.replace("put.\n", "put\n"), "no sentence"),
+        ("Nothing is put.\nfile: src/lib.rt\n", "`Why: `"),
+        (&EDIT.replace("Why: a | b, not c", "Why: "), "`Why: `"),
+        (&EDIT.replace(", not", ",\nnot"), "`Why: `"),
+    ] {
+        let found = row("none", edit, Some(&log())).expect_err(edit);
+        assert!(found.contains(fault), "{edit}{found}");
+    }
 }
 
 #[test]
 fn a_log_without_a_step_is_refused() {
-    let place = "/copy/proofs/+table/put/Proof.antt:22:30";
-    let fails = format!("note\n{place}: error: `loop`: the types `a` and `b`\n");
-    let expected = ["table/put", "loop"].map(String::from);
-    assert_eq!(first_error(&fails), Some(expected));
-    for log in [
-        String::new(),
-        format!("{place}: note: `loop`"),
-        format!("{place}: error: it took too long"),
-        format!("{place}: error: `tie` has no `Need-3` that can be named from here\n{fails}"),
-        fails.replace("/proofs/", "/specs/"),
+    let gone = "`tie` has no `Need-3` that can be named from here";
+    for (log, fault) in [
+        (None, "no log"),
+        (Some(String::new()), "no error"),
+        (Some(format!("{PLACE}: note: `loop`")), "no error"),
+        (Some(format!("{PLACE}: error: too long")), "no step"),
+        (Some(format!("{PLACE}: error: {gone}\n{}", log())), gone),
+        (Some(log().replace("/proofs/", "/specs/")), "no proof"),
     ] {
-        assert_eq!(first_error(&log), None, "{log}");
-    }
-}
-
-/// The gate tries all edits before it runs the tests, so each has its log there.
-#[test]
-fn each_row_has_the_step_of_the_log() {
-    for row in rows().into_iter().filter(|row| row.heading != FUNCTIONS) {
-        let edit = format!("{}/{}", row.heading, row.first);
-        let log = fs::read_to_string(format!("{ROOT}/target/must-fail/{edit}/.log"));
-        let missing = |_| panic!("{edit}: no log, run `rt must-fail {}`", row.heading);
-        let found = first_error(&log.unwrap_or_else(missing));
-        let found = found.unwrap_or_else(|| panic!("{edit}: no step that fails"));
-        assert_eq!(row.last[..2], found, "{edit}");
+        let found = row("none", EDIT, log.as_deref()).expect_err(fault);
+        assert!(found.contains(fault), "{found}");
     }
 }
 

@@ -1,4 +1,5 @@
-//! Document 01's bench examples of sine and transmitter, with its numbers.
+//! The bench examples of sine and transmitter in the specification, with its
+//! numbers.
 
 use crate::common::{Call, Side, BANDS, SIDES};
 
@@ -61,7 +62,7 @@ fn one_bit_advances_the_phase() {
 /// Equal bits in a row from phase 0, each growing by `step` within.
 fn assert_bits(side: Side, samples: &[i16], (advance, step): (usize, usize)) {
     for (i, &sample) in samples.iter().enumerate() {
-        let phase = i / 32 * advance + i % 32 * step;
+        let phase = (i / 32 * advance + i % 32 * step) % 1_920;
         assert_eq!(sample, side.sine(phase), "{side:?}: sample {i}");
     }
 }
@@ -81,6 +82,19 @@ fn most_characters_and_places() {
                 let answer = side.call(call, side.fresh(band), length).answer;
                 let found = (answer.number, answer.count);
                 assert_eq!(found, (number, used), "{side:?}: {count} into {length}");
+            }
+        }
+    }
+}
+
+#[test]
+fn places_of_an_idle() {
+    for side in SIDES {
+        for band in BANDS {
+            for (length, number, used) in [(96, 0, 96), (95, 4, 0), (0, 4, 0)] {
+                let answer = side.call(Call::Idle, side.fresh(band), length).answer;
+                let found = (answer.number, answer.count);
+                assert_eq!(found, (number, used), "{side:?}: into {length}");
             }
         }
     }

@@ -2,14 +2,24 @@
 
 mod common;
 
+mod c_calls;
+mod c_header;
+mod c_layout;
 mod c_program;
+mod c_sheet;
+mod citations;
 mod control;
 mod demodulate;
 mod demodulate_refusals;
 mod documents;
 mod examples;
+mod input_failures;
+mod loopback_refusals;
+mod loopbacks;
 mod margins;
+mod messages;
 mod modulate;
+mod output_failures;
 mod peers;
 mod picture;
 mod pipes;
@@ -33,8 +43,11 @@ mod refusals;
 mod sendings;
 mod sheet_examples;
 mod sheet_lengths;
+mod sheet_refusals;
+mod sheet_texts;
 mod sheets;
 mod sine;
+mod stack;
 mod statements;
 mod statements_refusals;
 mod transmitter;

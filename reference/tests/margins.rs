@@ -68,7 +68,7 @@ fn the_largest_disturbances() {
     }
 }
 
-/// The pairs of tones that document 01's disturbance can bring to fail.
+/// The pairs of tones that the specification's disturbance can bring to fail.
 fn failing(limits: Limits) -> Vec<&'static str> {
     let fails = |tones: &Tones| tried(tones, MOST, &limits).is_err();
     let failing = TONES.iter().filter(|tones| fails(tones));

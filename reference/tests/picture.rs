@@ -1,6 +1,7 @@
 //! The picture in `docs/`, and what it shows: which tone wins, and when a
 //! character is reported.
 
+use crate::common::made::assert_made;
 use crate::common::recording::{around_0, disturbed, every_character, sending};
 use crate::common::{sines, BANDS};
 use reference::disturbance::{is_good, winner, Pair, LIMITS, MOST};
@@ -14,15 +15,7 @@ use std::fs;
 fn the_file_is_what_the_program_draws() {
     let path = concat!(env!("CARGO_MANIFEST_DIR"), "/../docs/windows.svg");
     let file = fs::read_to_string(path).expect("the picture is there");
-    let drawn = picture::windows(sines());
-    if file != drawn {
-        let pairs = file.lines().zip(drawn.lines());
-        let same = pairs.take_while(|(old, new)| old == new).count();
-        panic!(
-            "line {} differs: draw it with examples/windows.rs",
-            same + 1
-        );
-    }
+    assert_made(&file, &picture::windows(sines()), "windows");
 }
 
 /// Start, data and stop bits of 06 hexadecimal: each pair of bits is there.

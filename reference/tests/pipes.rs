@@ -1,9 +1,7 @@
 //! How `modulate` and `demodulate` take their input and give their output: one
 //! behind the other, slowly, without end, or to nobody.
 
-use crate::common::process::{
-    ended, input_of, output_of, path, printed_slowly, printed_through, started,
-};
+use crate::common::process::{ended, in_shell, input_of, printed_slowly, printed_through, started};
 use crate::common::recording::sending;
 use crate::common::sheets::{lines, refused, sheet, text, HEAD, MOST_BYTES};
 use crate::common::{sines, BANDS};
@@ -12,7 +10,7 @@ use reference::random::Random;
 use std::fs::File;
 use std::io::{Read, Write};
 use std::os::unix::process::ExitStatusExt;
-use std::process::{Child, Command, ExitStatus, Stdio};
+use std::process::{Child, ExitStatus, Stdio};
 use std::thread;
 use std::time::Duration;
 
@@ -159,14 +157,11 @@ fn assert_ended_or_stopped(status: ExitStatus, what: &str) {
     assert!(soundly, "{what}: {status:?}");
 }
 
-/// It cannot print, reports that, and ends with status 0.
-fn assert_reported(program: &str, started: Child, input: &[u8]) {
+/// It cannot print, reports the error, and ends with status 0.
+fn assert_reported(program: &str, started: Child, input: &[u8], error: &str) {
     let (status, report) = fed(started, input);
     assert!(status.success(), "{program}: {status:?}");
-    assert_eq!(
-        report,
-        format!("{program}: the output could not be written\n")
-    );
+    assert_eq!(report, format!("{program}: standard output: {error}\n"));
 }
 
 #[test]
@@ -184,7 +179,7 @@ fn output_that_nobody_reads_and_no_signal() {
     for (program, input) in inputs() {
         let mut started = in_shell(program, "trap '' PIPE; exec \"$0\"");
         drop(started.stdout.take());
-        assert_reported(program, started, &input);
+        assert_reported(program, started, &input, "Broken pipe");
     }
 }
 
@@ -192,10 +187,10 @@ fn output_that_nobody_reads_and_no_signal() {
 fn output_that_is_closed_or_full() {
     for (program, input) in inputs() {
         let closed = in_shell(program, "exec \"$0\" >&-");
-        assert_reported(program, closed, &input);
+        assert_reported(program, closed, &input, "Bad file descriptor");
         let full = File::options().write(true).open("/dev/full");
         let full = started(program, Stdio::piped(), full.expect("the device is there"));
-        assert_reported(program, full, &input);
+        assert_reported(program, full, &input, "No space left on device");
     }
 }
 
@@ -211,28 +206,4 @@ fn output_of_which_little_is_read() {
         drop(output);
         assert_ended_or_stopped(ended(started), program);
     }
-}
-
-/// Without any input, and with a folder for it, which cannot be read: it is
-/// taken for empty.
-#[test]
-fn input_that_cannot_be_read() {
-    for (program, number) in [("modulate", 1), ("demodulate", 7)] {
-        let closed = in_shell(program, "exec \"$0\" <&-");
-        assert_eq!(output_of(closed), refused(number), "{program}, closed");
-        let folder = File::open("/").expect("the folder is there");
-        let folder = started(program, folder, Stdio::piped());
-        assert_eq!(output_of(folder), refused(number), "{program}, a folder");
-    }
-}
-
-/// Starts a program, whose path is `$0`, by a line of a shell.
-fn in_shell(program: &str, line: &str) -> Child {
-    Command::new("sh")
-        .args(["-c", line, &path(program)])
-        .stdin(Stdio::piped())
-        .stdout(Stdio::piped())
-        .stderr(Stdio::piped())
-        .spawn()
-        .expect("there is a shell")
 }

@@ -4,7 +4,7 @@
 
 use crate::common::receiver::{compare_accepted, CARRIER_LOST, NO_STOP_BIT, WINDOW};
 use crate::common::sines;
-use crate::common::states::steps;
+use crate::common::states::{steps, with_stage};
 use reference::library::Numbers;
 
 /// A window with I and Q of space, then of mark.
@@ -170,13 +170,13 @@ impl Case {
             band: self.band,
             window,
             run,
-            stage,
+            ..with_stage(stage)
         };
         let reading = compare_accepted(state, &self.window[WINDOW - 1..]);
         let next = reading.answer.state;
         assert_eq!(next.window, self.window);
         assert_eq!(next.run, if self.good() { (run + 1).min(32) } else { 0 });
-        (next.stage, reading.events().to_vec())
+        (next.stage_numbers(), reading.events().to_vec())
     }
 }
 

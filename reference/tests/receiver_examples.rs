@@ -1,9 +1,11 @@
-//! Document 01's bench examples of blocks and events, with its numbers.
+//! The bench examples of blocks and events in the specification, with its numbers,
+//! and some at the limits of the table of refusals.
 
-use crate::common::receiver::{compare, fresh, read, read_on, CARRIER_LOST, NO_STOP_BIT};
+use crate::common::receiver::{compare, fresh, read, read_on, CARRIER_LOST, FRESH, NO_STOP_BIT};
 use crate::common::recording::sending;
 use crate::common::states::steps;
 use crate::common::{sines, BANDS, IDLE_SAMPLES};
+use reference::library::{message_send, Numbers};
 
 /// The example in one block, and cut in several ways.
 const SIZES: [usize; 6] = [1, 31, 47, 48, 320, 16_384];
@@ -95,4 +97,39 @@ fn the_single_character_41() {
         assert_eq!(events, [], "band {band}");
         assert_eq!(state, fresh(band), "band {band}");
     }
+}
+
+/// A message of the library's in two blocks, with calls between them that are
+/// refused with 3, 5 and 4. Each call gets the state that the one before it gave.
+#[test]
+fn refused_calls_between_two_blocks() {
+    let mut samples = [0; 512];
+    let sent = message_send(2, b"A", &mut samples);
+    assert_eq!((sent.number, sent.count), (0, 512));
+    let (leader, rest) = samples.split_at(IDLE_SAMPLES);
+    let mut state = fresh(2);
+    let mut events = Vec::new();
+    for (samples, places, number) in [
+        (leader, 9, 0),
+        (&[0; 16_385], 9, 3),
+        (&[8_192], 9, 5),
+        (&[0], 0, 4),
+        (rest, 9, 0),
+    ] {
+        let reading = compare(state, samples, places);
+        assert_eq!(reading.answer.number, number);
+        events.extend_from_slice(reading.events());
+        state = reading.answer.state;
+    }
+    assert_eq!(events, [0x41]);
+}
+
+/// A state that no call gives is refused, and so is what the refused call gives.
+#[test]
+fn a_state_with_run_33() {
+    let state = Numbers { run: 33, ..FRESH };
+    let first = compare(state, &[0], 1).answer;
+    assert_eq!((first.number, first.state), (2, state));
+    let again = compare(first.state, &[0], 1).answer;
+    assert_eq!((again.number, again.state), (2, state));
 }

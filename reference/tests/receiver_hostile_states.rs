@@ -95,11 +95,11 @@ fn every_slot_and_byte() {
     }
 }
 
-/// A first number 0 is searching whatever stands behind it; any other is
-/// waiting, in range or not.
+/// 0 is searching whatever stands behind it, 1 is waiting, in range or not, and
+/// any other is out of range.
 #[test]
-fn every_first_number_of_a_stage() {
-    for first in 0..=255 {
+fn every_number_of_a_stage() {
+    for stage in 0..=255 {
         for (rest, good) in [
             ([0, 0, 0], false),
             ([17, 0, 0], false),
@@ -111,8 +111,9 @@ fn every_first_number_of_a_stage() {
             ([255, 255, 255], false),
         ] {
             let [wait, slot, byte] = rest;
-            let state = with_stage([first, wait, slot, byte]);
-            assert_eq!(taken(state), first == 0 || good, "{:?}", state.stage);
+            let state = with_stage([stage, wait, slot, byte]);
+            let expected = stage == 0 || stage == 1 && good;
+            assert_eq!(taken(state), expected, "{:?}", state.stage_numbers());
         }
     }
 }

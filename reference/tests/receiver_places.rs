@@ -4,10 +4,10 @@
 
 use crate::common::met::{assert_frequent, Met};
 use crate::common::receiver::{
-    compare_accepted, fresh, read_on, CARRIER_LOST, NO_STOP_BIT, WINDOW,
+    compare_accepted, fresh, read_on, CARRIER_LOST, FRESH, NO_STOP_BIT, WINDOW,
 };
 use crate::common::recording::{around_0, bits, disturbed, keyed, sending, surrounded};
-use crate::common::states::{any_pieces, byte_limit, longest_wait};
+use crate::common::states::{any_pieces, byte_limit, longest_wait, with_stage};
 use crate::common::{BANDS, IDLE_SAMPLES};
 use reference::disturbance::MOST;
 use reference::library::Numbers;
@@ -92,7 +92,7 @@ fn read_from(
         band,
         window: window.try_into().expect("a whole window"),
         run,
-        stage,
+        ..with_stage(stage)
     };
     for length in lengths {
         met.compare(state, &block[..length]);
@@ -165,11 +165,11 @@ fn ends_in_space(
             band,
             window,
             run: random.below(33) as u8,
-            stage: SEARCHING,
+            ..FRESH
         };
         let next = met.compare(state, &samples[..end]).answer.state;
         if end > before + silent {
-            match (next.stage, next.run) {
+            match (next.stage_numbers(), next.run) {
                 (SEARCHING, 31) => ends[0].push(end),
                 (FOUND, 32) => ends[1].push(end),
                 (stage, run) => assert!(stage != FOUND && run != 31, "{next:?}"),
@@ -220,7 +220,7 @@ fn a_gap_at_every_place_of_a_wait() {
                             band,
                             window,
                             run,
-                            stage,
+                            ..with_stage(stage)
                         };
                         for end in (random.below(9)..=samples.len()).step_by(9) {
                             met.compare(state, &samples[..end]);

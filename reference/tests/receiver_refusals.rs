@@ -131,35 +131,49 @@ fn noise_out_of_range_is_refused() {
     }
 }
 
-/// A stage that is handed in another form than a call stores is kept by a
-/// refusal, and brought into the one form by an accepted call.
+/// The lists of calls that are refused with 3, 5 and 4, whatever the state.
+fn refused_blocks() -> [(Vec<i16>, usize, u8); 3] {
+    [
+        (samples(MOST_SAMPLES + 1, &[]), 342, 3),
+        (samples(50, &[(20, 9_000)]), 2, 5),
+        (samples(50, &[]), 1, 4),
+    ]
+}
+
+/// A search with other numbers than 0 behind it is handed back by a refusal as it
+/// is, and brought into its one form by an accepted call.
 #[test]
-fn other_forms_of_a_stage() {
-    for (stage, stored) in [
-        ([0, 1, 2, 3], [0, 0, 0, 0]),
-        ([0, 255, 255, 255], [0, 0, 0, 0]),
-        ([0, 0, 0, 1], [0, 0, 0, 0]),
-        ([2, 16, 0, 0], [1, 16, 0, 0]),
-        ([255, 32, 9, 255], [1, 32, 9, 255]),
-        ([128, 1, 2, 1], [1, 1, 2, 1]),
-    ] {
-        let state = with_stage(stage);
+fn other_forms_of_a_search() {
+    for rest in [[1, 2, 3], [255, 255, 255], [0, 0, 1], [0, 9, 0], [16, 0, 0]] {
+        let [wait, slot, byte] = rest;
+        let state = with_stage([0, wait, slot, byte]);
         let empty = compare(state, &[], 1).answer;
-        let expected = Numbers {
-            stage: stored,
-            ..state
-        };
-        assert_eq!((empty.number, empty.state), (0, expected), "{stage:?}");
-        for (samples, places, number) in [
-            (samples(MOST_SAMPLES + 1, &[]), 342, 3),
-            (samples(50, &[(20, 9_000)]), 2, 5),
-            (samples(50, &[]), 1, 4),
-        ] {
+        assert_eq!((empty.number, empty.state), (0, FRESH), "{rest:?}");
+        for (samples, places, number) in refused_blocks() {
             let refused = compare(state, &samples, places).answer;
             assert_eq!((refused.number, refused.state), (number, state));
         }
         let hostile = Numbers { run: 33, ..state };
         let refused = compare(hostile, &[], 1).answer;
-        assert_eq!((refused.number, refused.state), (2, hostile), "{stage:?}");
+        assert_eq!((refused.number, refused.state), (2, hostile), "{rest:?}");
+    }
+}
+
+/// There are the stages 0 and 1 alone. Any other is refused with 2, before all
+/// else, and handed back as it is, though as a wait it would be in range.
+#[test]
+fn other_numbers_of_a_stage() {
+    for stage in 2..=255 {
+        for rest in [[0, 0, 0], [16, 0, 0], [32, 9, 255], [1, 2, 1]] {
+            let [wait, slot, byte] = rest;
+            let state = with_stage([stage, wait, slot, byte]);
+            let empty = compare(state, &[], 1).answer;
+            assert_eq!((empty.number, empty.state), (2, state));
+        }
+        let state = with_stage([stage, 16, 0, 0]);
+        for (samples, places, _) in refused_blocks() {
+            let refused = compare(state, &samples, places).answer;
+            assert_eq!((refused.number, refused.state), (2, state));
+        }
     }
 }

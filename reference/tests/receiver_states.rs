@@ -30,7 +30,10 @@ fn every_slot_and_wait() {
                                 band,
                                 window,
                                 run: random.below(33) as u8,
-                                stage: [1, wait, slot, byte as u8],
+                                stage: 1,
+                                wait,
+                                slot,
+                                byte: byte as u8,
                             };
                             let samples = tone.repeat(2);
                             let size = random.below(samples.len() + 1);
@@ -82,7 +85,7 @@ fn every_run() {
 fn random_states() {
     let mut random = Random::new(39);
     let mut seen = [0; EVENTS];
-    for _ in 0..12_000 {
+    for _ in 0..16_000 {
         let state = good_state(&mut random);
         let size = random.below(300);
         let samples = any_samples(&mut random, state.band, size);

@@ -1,12 +1,18 @@
-//! The library's sine and cosine against the rule.
+//! The library's sine, as its transmitter gives it, against the rule.
 
-use crate::common::sines;
+use crate::common::{compare, sines, Call, BANDS};
 use reference::library;
+use reference::transmitter::State;
 
-fn compare(phases: impl Iterator<Item = usize>) {
-    for phase in phases {
-        assert_eq!(library::sine(phase), sines().s(phase), "S({phase})");
-        assert_eq!(library::cosine(phase), sines().c(phase), "C({phase})");
+/// The first sample of an idle is S at the phase of the state.
+#[test]
+fn every_phase_in_both_bands() {
+    for band in BANDS {
+        for phase in 0..1_920 {
+            let outcome = compare(Call::Idle, State { band, phase }, 96);
+            let expected = sines().s(usize::from(phase));
+            assert_eq!(outcome.samples()[0], expected, "band {band}, S({phase})");
+        }
     }
 }
 
@@ -21,30 +27,5 @@ fn nearest_to_the_sine() {
         let nearest = exact.round() as i16;
         assert_eq!(library::sine(phase), nearest, "library, S({phase})");
         assert_eq!(sines().s(phase), nearest, "reference, S({phase})");
-    }
-}
-
-#[test]
-fn one_cycle() {
-    compare(0..1_920);
-}
-
-#[test]
-fn further_cycles() {
-    compare(1_920..=10_000);
-}
-
-/// Here phase + 480 does not fit, and must not be what is reduced.
-#[test]
-fn the_last_phases() {
-    compare(usize::MAX - 4_000..=usize::MAX);
-}
-
-/// Around each power of two, where narrower arithmetic would give way.
-#[test]
-fn phases_around_powers_of_two() {
-    for exponent in 11..usize::BITS {
-        let power = 1_usize << exponent;
-        compare(power - 1_000..=power + 1_000);
     }
 }

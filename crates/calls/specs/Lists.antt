@@ -1,4 +1,4 @@
--- Lists of calls, refused ones among them: document 01, "Whole recordings". `rule` gives a call's outcome from the state
+-- Lists of calls, refused ones among them: the specification, "Whole recordings". `rule` gives a call's outcome from the state
 -- that it is handed.
 -- Assumes nothing.
 use mathlib.Core.Bool.{cond}

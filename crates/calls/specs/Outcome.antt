@@ -1,4 +1,4 @@
--- What a call on a state gives, accepted or refused: document 01, "Refused calls". Every such call is one definition with an
+-- What a call on a state gives, accepted or refused: the specification, "Refused calls". Every such call is one definition with an
 -- outcome as its value, and a contract equates that with what the code returned and left.
 -- Assumes nothing.
 use mathlib.Core.Bool.{Bool, cond}

@@ -1,4 +1,4 @@
--- A call's refusals as a table: document 01, "Refused calls". A number is answered if and only if its condition is the first in the
+-- A call's refusals as a table: the specification, "Refused calls". A number is answered if and only if its condition is the first in the
 -- table's order that holds.
 -- Assumes nothing.
 use mathlib.Core.Path.{_≡_}

@@ -3,7 +3,8 @@
 ghost use mathlib.Core.Path.{_≡_};
 ghost use lib.Seq.{sets};
 
-// The number 0 and how many places of the buffer were used, or the number of a refusal and 0.
+// The number 0 and how many places of the buffer were used, or the number of a refusal and 0. C programs get it as it is.
+#[repr(C)]
 pub struct Answer {
     pub number: u8,
     pub count: usize,

@@ -27,7 +27,7 @@ abbrev pub askedBy : Stage → Asked
 askedBy Searching = Tone true (Waiting 16 0 0)
 askedBy (Waiting wait slot byte) = Slot wait slot byte
 
--- what the wait for a slot ends in; a slot out of its ranges, of which document 01 says nothing, is given up
+-- what the wait for a slot ends in; a slot out of its ranges, of which the specification says nothing, is given up
 abbrev pub waitOver : ℕ → ℕ → Decision → Next
 waitOver slot byte d = cond (isSlot slot byte) (taken slot byte d) (quiet Searching)
 

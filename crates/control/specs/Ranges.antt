@@ -1,4 +1,4 @@
--- The ranges of run and stage: document 01, "Reader, step by step". Its `moment` is our slot: 0 the start bit, 1 to 8 the data
+-- The ranges of run and stage: the specification, "Reader, step by step". Its `moment` is our slot: 0 the start bit, 1 to 8 the data
 -- bits, 9 the stop bit.
 -- Assumes nothing.
 use mathlib.Core.Bool.{Bool, true, cond, _&&_}

@@ -1,4 +1,4 @@
--- What a decision does to run and stage, and its event: document 01, "Reader, step by step", rules 3 to 5, as decision 17 reads them.
+-- What a decision does to run and stage, and its event: the specification, "Reader, step by step", rules 3 to 5, as decision 17 reads them.
 -- Assumes nothing.
 use mathlib.Core.Bool.{Bool, cond, not, _&&_, _||_}
 use mathlib.Core.List.{List, [], _∷_}
@@ -88,7 +88,7 @@ movedBy c d =
     let n : Next = nextOf (c .stage) run d in
     record { control = record { run = run; stage = n .stage }; event = n .event }
 
--- what the code gives for a run and a stage out of their ranges, of which document 01 says nothing
+-- what the code gives for a run and a stage out of their ranges, of which the specification says nothing
 abbrev pub unmoved : Control → Moved
 unmoved c = record { control = c; event = Nothing }
 

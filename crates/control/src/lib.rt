@@ -9,7 +9,7 @@ ghost use Rattle.control.specs.AsCoded.{isFound, askedBy, waitOver};
 
 mod slot;
 
-// What the receiver does between samples: it searches for a start bit, or waits for a bit slot (document 01's moment: 0
+// What the receiver does between samples: it searches for a start bit, or waits for a bit slot (the specification's moment: 0
 // start, 1 to 8 data, 9 stop) with the byte gathered so far.
 pub enum Stage {
     Searching,
@@ -53,7 +53,7 @@ pub struct Moved {
     pub event: Event,
 }
 
-// Rules 3 to 5 of document 01 for one sample, by the decision at its window. Out of their ranges run and stage come back as they are, and
+// Rules 3 to 5 of the specification for one sample, by the decision at its window. Out of their ranges run and stage come back as they are, and
 // there is no event.
 pub fn moved_by(control: Control, d: Decision) -> Moved
     ensures { λ r. ⌜ r ≡ cond (isControl control) (movedBy control d) (unmoved control) ⌝ }

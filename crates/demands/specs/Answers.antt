@@ -1,4 +1,4 @@
--- What is said of each call by demand 1: document 01, "Refused calls".
+-- What is said of each call by demand 1: the specification, "Refused calls".
 -- Assumes nothing.
 use mathlib.Core.Path.{_≡_}
 use mathlib.Core.List.{List, map}
@@ -8,7 +8,7 @@ use Rattle.calls.specs.Outcome.{Outcome, refused}
 
 -- A call with a table of tests, handed the state s and the memory `lent`, comes to the outcome o.
 pub record Answers {S L : Type 0} (row : List ℕ) (tests : List Test) (s : S) (lent : L) (Done : Outcome S L → Type 0) (o : Outcome S L) : Type 0 where
-  -- the table's numbers are those of the document, in its order
+  -- the table's numbers are those of the specification, in its order
   pub numbers : map (λ (t : Test). t .number) tests ≡ row
   -- the answer is the number of the first condition that holds, or 0 if none does
   pub first : IsFirst tests (o .number)

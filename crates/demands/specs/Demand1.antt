@@ -1,6 +1,6 @@
 -- Demand 1: every call is answered, whoever made it. It is accepted, or refused with the number of the first condition in its row of
 -- the table that holds; a refused call reports count 0, gives back the state it was handed and changes no lent place; an accepted
--- reading has read all it was handed. Decision 15; document 01, "Refused calls".
+-- reading has read all it was handed. Decision 15; the specification, "Refused calls".
 --
 -- The contracts equate what the code returns and leaves with the outcomes named here, so what is said of these is said of the code.
 -- Assumes nothing.

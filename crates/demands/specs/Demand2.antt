@@ -1,5 +1,5 @@
 -- Demand 2: the rules are the rules. Each sample is the whole number nearest to 6,000 times the sine at the sum of all steps so far, and
--- the receiver gives exactly the events of the step rule. Decision 15; document 01, "Tones and sine", "Transmitter" and "Reader, step by
+-- the receiver gives exactly the events of the step rule. Decision 15; the specification, "Tones and sine", "Transmitter" and "Reader, step by
 -- step".
 -- Assumes nothing.
 use mathlib.Core.Path.{_≡_}

@@ -1,6 +1,6 @@
 -- Demand 3: the guide's promise. Of two recordings of sendings, each in one of the bands with silence around it and every sample altered by
 -- at most 100, each list of events is the characters sent, no event is a fault, and the two lists are equal exactly when the characters
--- are: over lists of calls, refused ones among them. Decision 15; document 01, "Whole recordings".
+-- are: over lists of calls, refused ones among them. Decision 15; the specification, "Whole recordings".
 -- Assumes nothing.
 use Rattle.margin.specs.Windows.{disturbance}
 use Rattle.promise.specs.Recordings.{Transmission}

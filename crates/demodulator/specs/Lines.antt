@@ -1,4 +1,4 @@
--- The lines of events that `demodulate` prints, in ASCII codes: document 01, "Sheet and programs".
+-- The lines of events that `demodulate` prints, in ASCII codes: the specification, "Sheet and programs".
 -- Assumes nothing.
 use mathlib.Core.Path.{_≡_}
 use mathlib.Core.Bool.{Bool, true, false, cond, _&&_, _||_}

@@ -1,4 +1,4 @@
--- Numbers as text, in ASCII codes: the digits of document 01, "Sheet and programs".
+-- Numbers as text, in ASCII codes: the digits of the specification, "Sheet and programs".
 -- Assumes nothing.
 use mathlib.Core.Bool.{Bool, cond, _&&_}
 use mathlib.Core.List.{List, [], _∷_, _++_}

@@ -1,5 +1,5 @@
 -- A list with a number added at each place, and lists that are equal up to a bound at each place, as a recording is to the samples
--- sent: document 01, "Whole recordings".
+-- sent: the specification, "Whole recordings".
 -- Assumes nothing.
 use mathlib.Core.List.{List, [], _∷_}
 use Prim.Native.Nat.{ℕ, _≤_}

@@ -1,4 +1,4 @@
--- Sums over lists and over numbers. The definitions are ours: `total` serves document 01's sum of steps, `sumTo` the signed sums
+-- Sums over lists and over numbers. The definitions are ours: `total` serves the specification's sum of steps, `sumTo` the signed sums
 -- of its reader, and `dot` the same sums as they are computed.
 -- Assumes nothing.
 use mathlib.Core.List.{List, [], _∷_}

@@ -1,4 +1,4 @@
-// The receiver's second entry, document 01's thin one above the core: it takes the state lent and leaves the next state in it.
+// The receiver's second entry, the specification's thin one above the core: it takes the state lent and leaves the next state in it.
 ghost use mathlib.Core.Path.{_≡_};
 ghost use Rattle.calls.specs.Outcome.{outcome};
 ghost use Rattle.receiver.specs.Calls.{blockOf};

@@ -1,4 +1,4 @@
--- A message that is sent, disturbed and read back in one call. The call is ours; it sends as document 01's "Transmitter" has it, alters
+-- A message that is sent, disturbed and read back in one call. The call is ours; it sends as the specification's "Transmitter" has it, alters
 -- the samples as its "Whole recordings" allows, and reads in blocks of one size.
 -- Assumes nothing.
 use mathlib.Core.Bool.{Bool, not, _&&_}
@@ -41,7 +41,7 @@ abbrev pub isRoom : (characters added samples events : ℕ) → Bool
 isRoom characters added samples events =
     leb (samplesFor characters) added && leb (samplesFor characters) samples && leb characters events
 
--- after document 01's table: 1 no band, 3 too many characters or no size of a block, 5 some number outside its range, 4 a list too short
+-- after the specification's table: 1 no band, 3 too many characters or no size of a block, 5 some number outside its range, 4 a list too short
 abbrev pub loopbackTests : (band characters : ℕ) (added : List ℤ) (size samples events : ℕ) → List Test
 loopbackTests band characters added size samples events =
     test 1 (not (isBand band))

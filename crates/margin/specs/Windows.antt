@@ -1,5 +1,5 @@
 -- The windows of a sending, and what a receiver decides in them under every disturbance up to a bound: the numbers behind demand 3
--- (document 01, "Whole recordings"). The definitions are ours.
+-- (the specification, "Whole recordings"). The definitions are ours.
 -- Assumes nothing.
 use mathlib.Core.Path.{_≡_}
 use mathlib.Core.Bool.{Bool, true, false}
@@ -13,7 +13,7 @@ use Rattle.tones.specs.declared.Tones.{Tones}
 use Rattle.tones.specs.Bands.{stepOf}
 use Rattle.receiver.specs.Energy.{decisionOf}
 
--- the most that a sample is altered by, either way: document 01, "Whole recordings"
+-- the most that a sample is altered by, either way: the specification, "Whole recordings"
 abbrev pub disturbance : ℕ
 disturbance = 100
 

@@ -1,5 +1,5 @@
--- A message in one call: leader, characters and trailer, each as document 01's "Transmitter" has it, from the fresh transmitter of a
--- band. The call is ours; its numbers are after document 01's "Refused calls", and it has no state.
+-- A message in one call: leader, characters and trailer, each as the specification's "Transmitter" has it, from the fresh transmitter of a
+-- band. The call is ours; its numbers are after the specification's "Refused calls", and it has no state.
 -- Assumes nothing.
 use mathlib.Core.Bool.{not}
 use mathlib.Core.List.{List, [], _∷_}

@@ -1,18 +1,20 @@
 // Prints the sheet of a message: standard input is a band digit and the characters behind it.
-use libc::STDERR_FILENO;
 use libc::STDIN_FILENO;
 use libc::STDOUT_FILENO;
 
 fn main() {
     let mut input = [0u8; modulator::MOST_INPUT];
-    let n = io::read_full(STDIN_FILENO, &mut input);
+    let read = streams::read_all(STDIN_FILENO, &mut input);
+    // A program has no exit status, so a failure is told on standard error alone.
+    if !read.whole {
+        os::fail(b"modulate: standard input");
+        return;
+    }
+    let n = read.count;
     let mut out = [0u8; sheet::MOST_BYTES];
     let len = modulator::modulate(&input[..n], &mut out);
-    // A program has no exit status to tell it by.
-    if !io::write_all(STDOUT_FILENO, &out[..len]) {
-        io::write_all(
-            STDERR_FILENO,
-            b"modulate: the output could not be written\n",
-        );
+    let written = streams::write_all(STDOUT_FILENO, &out[..len]);
+    if !written.whole {
+        os::fail(b"modulate: standard output");
     }
 }

@@ -1,4 +1,4 @@
--- What both programs print over the front of a caller's buffer, in ASCII codes: document 01, "Sheet and programs".
+-- What both programs print over the front of a caller's buffer, in ASCII codes: the specification, "Sheet and programs".
 -- Assumes nothing.
 use mathlib.Core.Path.{_≡_}
 use mathlib.Core.List.{List, [], _∷_, _++_}

@@ -1,4 +1,4 @@
--- What is read is what was sent, said of two recordings: document 01, "Whole recordings"; decision 15.
+-- What is read is what was sent, said of two recordings: the specification, "Whole recordings"; decision 15.
 -- Assumes nothing.
 use mathlib.Core.Path.{_≡_}
 use mathlib.Core.Logic.{_↔_}

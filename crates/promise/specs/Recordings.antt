@@ -1,4 +1,4 @@
--- A sending, a recording of it and a reading of that: document 01, "Whole recordings". The calls, what each gives, and how the state
+-- A sending, a recording of it and a reading of that: the specification, "Whole recordings". The calls, what each gives, and how the state
 -- goes from call to call, refused ones among them, are the definitions of `calls`, `transmitter` and `receiver` that the contracts
 -- name.
 -- Assumes nothing.

@@ -1,5 +1,5 @@
--- The receiver's calls: document 01, "Reader, step by step" and "Refused calls". Each has its table of refusals, in the order of the
--- document's.
+-- The receiver's calls: the specification, "Reader, step by step" and "Refused calls". Each has its table of refusals, in the
+-- specification's order.
 -- Assumes nothing.
 use mathlib.Core.Bool.{Bool, cond, not, _&&_}
 use mathlib.Core.List.{List, [], _∷_}

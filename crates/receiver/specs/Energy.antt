@@ -1,4 +1,4 @@
--- The energies of the two tones in a window, and what they decide: document 01, "Reader, step by step", rules 2 and 3.
+-- The energies of the two tones in a window, and what they decide: the specification, "Reader, step by step", rules 2 and 3.
 -- Assumes nothing.
 use mathlib.Core.Bool.{cond}
 use mathlib.Core.List.{List}

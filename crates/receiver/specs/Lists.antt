@@ -1,4 +1,4 @@
--- Lists of block calls (document 01, "Whole recordings"), and demand 2 over them: the events are exactly those of the step rule.
+-- Lists of block calls (the specification, "Whole recordings"), and demand 2 over them: the events are exactly those of the step rule.
 -- Assumes nothing.
 use mathlib.Core.Path.{_≡_}
 use mathlib.Core.Bool.{true}

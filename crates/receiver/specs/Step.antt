@@ -1,4 +1,4 @@
--- The step rule: what one sample, and a list of samples, does to a receiver: document 01, "Reader, step by step". What a decision does
+-- The step rule: what one sample, and a list of samples, does to a receiver: the specification, "Reader, step by step". What a decision does
 -- to run and stage, its rules 3 to 5, stands in `control`.
 -- Assumes nothing.
 use mathlib.Core.List.{List, [], _∷_, _++_}

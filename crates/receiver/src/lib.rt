@@ -1,5 +1,5 @@
-// The receiver, document 01's reader: opening, and blocks of samples to events. Events go to the front of a caller's list,
-// document 01's lent list; the state goes in and comes back by value.
+// The receiver, the specification's reader: opening, and blocks of samples to events. Events go to the front of a caller's list,
+// the specification's lent list; the state goes in and comes back by value.
 ghost use mathlib.Core.Path.{_≡_};
 ghost use Rattle.calls.specs.Refusals.{firstOf};
 ghost use Rattle.calls.specs.Outcome.{outcome};
@@ -41,7 +41,7 @@ pub struct Reading {
 }
 
 impl Receiver {
-    // The fresh state of a band: document 01's opening.
+    // The fresh state of a band: the specification's opening.
     pub fn open(band: u8) -> Opened
         ensures { λ r. ⌜ r ≡ openOf band ⌝ }
     {

@@ -1,20 +1,25 @@
--- The numbers of a state stand for that state. And what a block call on numbers answers and stores, from what an entry of the receiver
--- gives: the two entries have one contract.
+-- The numbers of a state stand for that state, and a stage out of its range is refused. And what a block call on numbers gives, from what
+-- an entry of the receiver gives: the two entries have one contract.
 -- Assumes nothing.
-use mathlib.Core.Path.{_≡_, refl, ap, ap₂, _∙_}
+use mathlib.Core.Path.{_≡_, refl, ap, _∙_}
+use mathlib.Core.Bool.{and-false}
 use mathlib.Core.List.{List}
-use Prim.Native.Nat.{ℕ}
+use Prim.Native.Nat.{ℕ, _≤_}
+use native.Mathlib.Omega.{arith}
+use borrow.Author.Tests.{ne-eqb}
 use lib.IntN.{ℤ}
-use Rattle.calls.specs.declared.Answer.{Answer}
-use Rattle.calls.specs.Outcome.{Outcome, outcome}
+use Rattle.calls.specs.Outcome.{answerOf, outcome, refused}
 use Rattle.control.specs.declared.Stage.{Stage}
 use Rattle.control.specs.declared.Stage.the-variants.{Searching, Waiting}
+use Rattle.control.specs.Ranges.{isStage, isControl}
 use Rattle.receiver.specs.declared.Receiver.{Receiver}
 use Rattle.receiver.specs.declared.Reading.{Reading}
-use Rattle.receiver.specs.Calls.{blockOf}
-use Rattle.receiving.specs.Numbers.{StateNumbers, stageNumbers, stageOf, numbersOf, receiverOf, nextNumbers, blockNumbers}
+use Rattle.receiver.specs.Calls.{inRange, blockOf}
+use Rattle.receiving.specs.declared.State.{State}
+use Rattle.receiving.specs.declared.Block.{Block}
+use Rattle.receiving.specs.Numbers.{stageNumbers, stageOf, numbersOf, receiverOf, readingNumbers, outcomeNumbers, blockNumbers}
 
--- what one call stores, the next one takes for the same state
+-- what one call gives, the next one takes for the same state
 stage-stored : (s : Stage) → stageOf (stageNumbers s) ≡ s
 stage-stored Searching = refl
 stage-stored (Waiting wait slot byte) = refl
@@ -22,12 +27,16 @@ stage-stored (Waiting wait slot byte) = refl
 pub state-stored : (s : Receiver) → receiverOf (numbersOf s) ≡ s
 state-stored s i = record { band = s .band; window = s .window; run = s .run; stage = stage-stored (s .stage) i }
 
--- An entry is called with the state of the numbers n and gives r; what is kept of r, the numbers m among it, is the call on n.
-module _ (n m : StateNumbers) (xs : List ℤ) (lent : List ℕ) {s : Receiver} {r : Reading} {now : List ℕ} {a : Answer} where
-  pub stored : s ≡ receiverOf n → outcome (r .answer) (r .receiver) now ≡ blockOf s xs lent
-      → (a ≡ r .answer) × (m ≡ nextNumbers (r .answer .number) (r .receiver) n) → outcome a m now ≡ blockNumbers n xs lent
+-- a stage number above 1 is refused with 2, and the state comes back as it was handed
+pub stage-refused : (n : State) (xs : List ℤ) (lent : List ℕ) → 2 ≤ n .stage → blockNumbers n xs lent ≡ refused 2 n lent
+unfolding blockOf inRange isControl isStage
+stage-refused n xs lent h =
+    simp (ne-eqb (n .stage) 0 (λ e. omega (arith, e)), ne-eqb (n .stage) 1 (λ e. omega (arith, e)), and-false)
+
+-- An entry is called with the state of the numbers n and gives r; what is handed back of r is the call on n.
+module _ (n : State) (xs : List ℤ) (lent : List ℕ) {s : Receiver} {r : Reading} {now : List ℕ} {b : Block} where
+  pub stored : s ≡ receiverOf n → outcome (r .answer) (r .receiver) now ≡ blockOf s xs lent → b ≡ readingNumbers r n
+      → outcome (answerOf (b .number) (b .count)) (b .receiver) now ≡ blockNumbers n xs lent
   stored made read kept =
-      ap₂ (λ (b : Answer) (k : StateNumbers). outcome b k now) (kept .0) (kept .1)
-      ∙ ap
-      (λ (o : Outcome Receiver (List ℕ)). record { number = o .number; count = o .count; state = nextNumbers (o .number) (o .state) n; lent = o .lent })
-      (read ∙ ap (λ (t : Receiver). blockOf t xs lent) made)
+      ap (λ (k : Block). outcome (answerOf (k .number) (k .count)) (k .receiver) now) kept
+      ∙ ap (outcomeNumbers n) (read ∙ ap (λ (t : Receiver). blockOf t xs lent) made)

@@ -1,52 +1,72 @@
--- A receiver's state as numbers (decision 22), and a block call on them, so that an exported contract cites the same definitions.
+-- A receiver's state as numbers, in a form that is ours (decision 22), and the calls on them: the specification, "Reader, step by step"
+-- and "Refused calls".
 -- Assumes nothing.
 use mathlib.Core.Bool.{cond}
-use mathlib.Core.List.{List, [], _∷_}
+use mathlib.Core.List.{List}
 use Prim.Native.Nat.{ℕ}
 use lib.Dec.{eqb}
 use lib.IntN.{ℤ}
-use lib.ListN.{getD}
 use Rattle.calls.specs.Outcome.{Outcome}
 use Rattle.control.specs.declared.Stage.{Stage}
 use Rattle.control.specs.declared.Stage.the-variants.{Searching, Waiting}
 use Rattle.receiver.specs.declared.Receiver.{Receiver}
+use Rattle.receiver.specs.declared.Opened.{Opened}
+use Rattle.receiver.specs.declared.Reading.{Reading}
 use Rattle.receiver.specs.Calls.{blockOf}
+use Rattle.receiving.specs.declared.StageNumbers.{StageNumbers}
+use Rattle.receiving.specs.declared.State.{State}
+use Rattle.receiving.specs.declared.Opening.{Opening}
+use Rattle.receiving.specs.declared.Block.{Block}
 
--- the four numbers of a stage
-abbrev pub stageNumbers : Stage → List ℕ
-stageNumbers Searching = 0 ∷ 0 ∷ 0 ∷ 0 ∷ []
-stageNumbers (Waiting wait slot byte) = 1 ∷ wait ∷ slot ∷ byte ∷ []
+-- ---- a stage
 
--- the stage of four numbers: any first number but 0 is waiting
-abbrev pub stageOf : List ℕ → Stage
-stageOf ns = cond (eqb (getD ns 0 0) 0) Searching (Waiting (getD ns 1 0) (getD ns 2 0) (getD ns 3 0))
+-- the numbers of a stage
+abbrev pub stageNumbers : Stage → StageNumbers
+stageNumbers Searching = record { stage = 0; wait = 0; slot = 0; byte = 0 }
+stageNumbers (Waiting wait slot byte) = record { stage = 1; wait = wait; slot = slot; byte = byte }
 
-pub record StateNumbers : Type 0 where
-  pub band : ℕ
-  pub window : List ℤ
-  pub run : ℕ
-  pub stage : List ℕ
+-- the stage of numbers: 0 is searching and 1 waiting; any other is taken as a wait of 0, which is out of the ranges
+abbrev pub stageOf : StageNumbers → Stage
+stageOf n = cond (eqb (n .stage) 0) Searching (cond (eqb (n .stage) 1) (Waiting (n .wait) (n .slot) (n .byte)) (Waiting 0 0 0))
 
-abbrev pub stateNumbers : ℕ → List ℤ → ℕ → List ℕ → StateNumbers
-stateNumbers band window run stage = record { band = band; window = window; run = run; stage = stage }
+-- ---- a state
 
-abbrev pub numbersOf : Receiver → StateNumbers
-numbersOf s = stateNumbers (s .band) (s .window) (s .run) (stageNumbers (s .stage))
+abbrev pub receiverOf : State → Receiver
+receiverOf s =
+    record {
+      band = s .band;
+      window = s .window;
+      run = s .run;
+      stage = stageOf (record { stage = s .stage; wait = s .wait; slot = s .slot; byte = s .byte });
+    }
 
-abbrev pub receiverOf : StateNumbers → Receiver
-receiverOf n = record { band = n .band; window = n .window; run = n .run; stage = stageOf (n .stage) }
+-- a state from the numbers of its stage and the other fields
+abbrev pub stateOf : ℕ → List ℤ → ℕ → StageNumbers → State
+stateOf band window run n =
+    record { band = band; window = window; run = run; stage = n .stage; wait = n .wait; slot = n .slot; byte = n .byte }
 
--- what a block call with this number stores: the numbers of the next state if it is accepted, and those that it was handed if not
-abbrev pub nextNumbers : ℕ → Receiver → StateNumbers → StateNumbers
-nextNumbers number next n = cond (eqb number 0) (numbersOf next) n
+abbrev pub numbersOf : Receiver → State
+numbersOf r = stateOf (r .band) (r .window) (r .run) (stageNumbers (r .stage))
+
+-- ---- the calls
+
+-- what an opening answers
+abbrev pub openedNumbers : Opened → Opening
+openedNumbers o = record { number = o .number; receiver = numbersOf (o .receiver) }
+
+-- the state that a block call with this number hands back: the numbers of the next one if it is accepted, and those handed if not
+abbrev pub nextNumbers : ℕ → Receiver → State → State
+nextNumbers number next handed = cond (eqb number 0) (numbersOf next) handed
+
+-- what is handed back of a reading, and of an outcome
+abbrev pub readingNumbers : Reading → State → Block
+readingNumbers r handed =
+    record { receiver = nextNumbers (r .answer .number) (r .receiver) handed; number = r .answer .number; count = r .answer .count }
+
+abbrev pub outcomeNumbers : State → Outcome Receiver (List ℕ) → Outcome State (List ℕ)
+outcomeNumbers handed o =
+    record { number = o .number; count = o .count; state = nextNumbers (o .number) (o .state) handed; lent = o .lent }
 
 -- a block call on the numbers of a state
-abbrev pub blockNumbers : StateNumbers → List ℤ → List ℕ → Outcome StateNumbers (List ℕ)
-blockNumbers n xs lent =
-    let o : Outcome Receiver (List ℕ) = blockOf (receiverOf n) xs lent in
-    record {
-      number = o .number;
-      count = o .count;
-      state = nextNumbers (o .number) (o .state) n;
-      lent = o .lent;
-    }
+abbrev pub blockNumbers : State → List ℤ → List ℕ → Outcome State (List ℕ)
+blockNumbers handed xs lent = outcomeNumbers handed (blockOf (receiverOf handed) xs lent)

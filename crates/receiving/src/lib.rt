@@ -1,140 +1,170 @@
-// The receiver for programs in other languages, on numbers and slices. A state is handed in, and handed back, as the numbers of its
-// fields. A stage is four numbers: 0, 0, 0, 0 for searching, and 1 with wait, slot and byte for waiting.
+// The receiver for programs in other languages. A state is handed in, and handed back, as a struct of numbers, by value.
 ghost use mathlib.Core.Path.{_≡_};
 ghost use Rattle.calls.specs.Outcome.{answerOf, outcome};
 ghost use Rattle.receiver.specs.Calls.{openOf};
-ghost use Rattle.receiving.specs.Numbers.{stageOf, stageNumbers, stateNumbers, numbersOf, receiverOf, nextNumbers, blockNumbers};
+ghost use Rattle.receiving.specs.Numbers.{stageOf, stageNumbers, receiverOf, numbersOf, openedNumbers, readingNumbers, blockNumbers};
+
+mod testing;
+
 use control::Stage;
 use receiver::Reading;
 use receiver::Receiver;
 
-// Opens the wanted band and stores the state.
-#[no_mangle]
-pub extern "C" fn modem_receiver_open(
-    wanted: u8,
-    band: &mut u8,
-    window: &mut [i16; 32],
-    run: &mut u8,
-    stage: &mut [u8; 4],
-) -> u8
-    ensures { λ r. ⌜ (r ≡ openOf wanted .number)
-        × (stateNumbers (now (band .exit)) (now (window .exit)) (now (run .exit)) (now (stage .exit)) ≡ numbersOf (openOf wanted .receiver)) ⌝ }
-{
-    let o = Receiver::open(wanted);
-    let r = o.receiver;
-    store_state(r, band, window, run, stage);
-    o.number
+// A receiver's state as numbers. Stage 0 is searching, and stage 1 is waiting, with its wait, slot and byte; where a call gives 0, these
+// three are 0 too. Any other stage is out of its range.
+#[repr(C)]
+pub struct State {
+    pub band: u8,
+    pub window: [i16; 32],
+    pub run: u8,
+    pub stage: u8,
+    pub wait: u8,
+    pub slot: u8,
+    pub byte: u8,
 }
 
-// Reads a block of samples, and stores the count and, if the call is accepted, the next state. A refused call leaves the
-// numbers of the state as they are, even where they are not those that would be stored for it.
+// What an opening answers: the number, and the fresh state of the band, or of band 1 if it is refused.
+#[repr(C)]
+pub struct Opening {
+    pub number: u8,
+    pub receiver: State,
+}
+
+// What a block call answers: the next state, the number, and the count of events.
+#[repr(C)]
+pub struct Block {
+    pub receiver: State,
+    pub number: u8,
+    pub count: usize,
+}
+
+// The numbers of a stage by themselves.
+pub struct StageNumbers {
+    pub stage: u8,
+    pub wait: u8,
+    pub slot: u8,
+    pub byte: u8,
+}
+
+// Opens a band.
+#[no_mangle]
+pub extern "C" fn modem_receiver_open(band: u8) -> Opening
+    ensures { λ r. ⌜ r ≡ openedNumbers (openOf band) ⌝ }
+{
+    let opened = Receiver::open(band);
+    let fresh = opened.receiver;
+    Opening {
+        number: opened.number,
+        receiver: numbers_of(fresh),
+    }
+}
+
+// Reads a block of samples. A refused call gives back the state as it was handed, even where its numbers are not those that a call
+// gives for it.
 #[no_mangle]
 pub extern "C" fn modem_receiver_block(
-    band: &mut u8,
-    window: &mut [i16; 32],
-    run: &mut u8,
-    stage: &mut [u8; 4],
+    receiver: State,
     samples: &[i16],
     events: &mut [u16],
-    count: &mut usize,
-) -> u8
-    ensures { λ r. ⌜ outcome (answerOf r (now (count .exit))) (stateNumbers (now (band .exit)) (now (window .exit)) (now (run .exit)) (now (stage .exit))) (now (events .exit))
-        ≡ blockNumbers (stateNumbers (now (band .entry)) (now (window .entry)) (now (run .entry)) (now (stage .entry))) (now (samples .entry)) (now (events .entry)) ⌝ }
+) -> Block
+    ensures { λ r. ⌜ outcome (answerOf (r .number) (r .count)) (r .receiver) (now (events .exit))
+        ≡ blockNumbers receiver (now (samples .entry)) (now (events .entry)) ⌝ }
 {
-    let receiver = receiver_of(*band, *window, *run, *stage);
-    let reading = receiver.block(samples, events);
-    store_reading(reading, band, window, run, stage, count)
+    let reading = receiver_of(receiver).block(samples, events);
+    reading_numbers(reading, receiver)
 }
 
-// The same call through the receiver's second entry, to which the state is lent.
-#[no_mangle]
-pub extern "C" fn modem_receiver_block_lent(
-    band: &mut u8,
-    window: &mut [i16; 32],
-    run: &mut u8,
-    stage: &mut [u8; 4],
-    samples: &[i16],
-    events: &mut [u16],
-    count: &mut usize,
-) -> u8
-    ensures { λ r. ⌜ outcome (answerOf r (now (count .exit))) (stateNumbers (now (band .exit)) (now (window .exit)) (now (run .exit)) (now (stage .exit))) (now (events .exit))
-        ≡ blockNumbers (stateNumbers (now (band .entry)) (now (window .entry)) (now (run .entry)) (now (stage .entry))) (now (samples .entry)) (now (events .entry)) ⌝ }
+// What a block call on a state hands back, from what an entry of the receiver gave: the next state if it was accepted, and the state as
+// it was handed if not.
+fn reading_numbers(reading: Reading, handed: State) -> Block
+    ensures { λ r. ⌜ r ≡ readingNumbers reading handed ⌝ }
 {
-    let state = receiver_of(*band, *window, *run, *stage);
-    let read = lent::block_by_value(state, samples, events);
-    store_reading(read, band, window, run, stage, count)
-}
-
-fn receiver_of(band: u8, window: [i16; 32], run: u8, stage: [u8; 4]) -> Receiver
-    ensures { λ r. ⌜ r ≡ receiverOf (stateNumbers band window run stage) ⌝ }
-{
-    Receiver {
-        band,
-        window,
-        run,
-        stage: stage_of(stage),
-    }
-}
-
-// Stores the count and, if the call was accepted, the next state, and gives the number.
-fn store_reading(
-    reading: Reading,
-    band: &mut u8,
-    window: &mut [i16; 32],
-    run: &mut u8,
-    stage: &mut [u8; 4],
-    count: &mut usize,
-) -> u8
-    ensures { λ r. ⌜ (answerOf r (now (count .exit)) ≡ reading .answer)
-        × (stateNumbers (now (band .exit)) (now (window .exit)) (now (run .exit)) (now (stage .exit))
-        ≡ nextNumbers (reading .answer .number) (reading .receiver) (stateNumbers (now (band .entry)) (now (window .entry)) (now (run .entry)) (now (stage .entry)))) ⌝ }
-{
-    let a = reading.answer;
+    let answer = reading.answer;
     let next = reading.receiver;
-    *count = a.count;
-    if a.number == 0 {
-        store_state(next, band, window, run, stage);
-    }
-    a.number
-}
-
-fn store_state(
-    receiver: Receiver,
-    band: &mut u8,
-    window: &mut [i16; 32],
-    run: &mut u8,
-    stage: &mut [u8; 4],
-)
-    ensures { λ r. ⌜ stateNumbers (now (band .exit)) (now (window .exit)) (now (run .exit)) (now (stage .exit)) ≡ numbersOf receiver ⌝ }
-{
-    let samples = receiver.window;
-    let at = receiver.stage;
-    let four = stage_numbers(at);
-    *band = receiver.band;
-    *window = samples;
-    *run = receiver.run;
-    *stage = four;
-}
-
-fn stage_of(numbers: [u8; 4]) -> Stage
-    ensures { λ r. ⌜ r ≡ stageOf numbers ⌝ }
-{
-    let first = numbers[0];
-    let wait = numbers[1];
-    let slot = numbers[2];
-    let byte = numbers[3];
-    if first == 0 {
-        Stage::Searching
+    let receiver = if answer.number == 0 {
+        numbers_of(next)
     } else {
-        Stage::Waiting { wait, slot, byte }
+        handed
+    };
+    Block {
+        receiver,
+        number: answer.number,
+        count: answer.count,
     }
 }
 
-fn stage_numbers(stage: Stage) -> [u8; 4]
+// The state of its numbers.
+fn receiver_of(state: State) -> Receiver
+    ensures { λ r. ⌜ r ≡ receiverOf state ⌝ }
+{
+    let window = state.window;
+    let stage = stage_of(StageNumbers {
+        stage: state.stage,
+        wait: state.wait,
+        slot: state.slot,
+        byte: state.byte,
+    });
+    Receiver {
+        band: state.band,
+        window,
+        run: state.run,
+        stage,
+    }
+}
+
+fn numbers_of(receiver: Receiver) -> State
+    ensures { λ r. ⌜ r ≡ numbersOf receiver ⌝ }
+{
+    let window = receiver.window;
+    let stage = receiver.stage;
+    let n = stage_numbers(stage);
+    State {
+        band: receiver.band,
+        window,
+        run: receiver.run,
+        stage: n.stage,
+        wait: n.wait,
+        slot: n.slot,
+        byte: n.byte,
+    }
+}
+
+// The stage of its numbers. That of a number above 1 is no stage in its ranges, so that a call refuses it.
+fn stage_of(n: StageNumbers) -> Stage
+    ensures { λ r. ⌜ r ≡ stageOf n ⌝ }
+{
+    if n.stage == 0 {
+        Stage::Searching
+    } else if n.stage == 1 {
+        Stage::Waiting {
+            wait: n.wait,
+            slot: n.slot,
+            byte: n.byte,
+        }
+    } else {
+        Stage::Waiting {
+            wait: 0,
+            slot: 0,
+            byte: 0,
+        }
+    }
+}
+
+fn stage_numbers(stage: Stage) -> StageNumbers
     ensures { λ r. ⌜ r ≡ stageNumbers stage ⌝ }
 {
     match stage {
-        Stage::Searching => [0, 0, 0, 0],
-        Stage::Waiting { wait, slot, byte } => [1, wait, slot, byte],
+        Stage::Searching => StageNumbers {
+            stage: 0,
+            wait: 0,
+            slot: 0,
+            byte: 0,
+        },
+        Stage::Waiting { wait, slot, byte } => StageNumbers {
+            stage: 1,
+            wait,
+            slot,
+            byte,
+        },
     }
 }

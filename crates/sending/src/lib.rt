@@ -1,85 +1,56 @@
-// The sine and the transmitter for programs in other languages, on numbers and slices. A state is handed in, and handed back, as
-// the numbers of its fields.
+// The transmitter's calls for programs in other languages. A state goes in and comes back by value, as in Rattle.
 ghost use mathlib.Core.Path.{_≡_};
 ghost use Rattle.calls.specs.Outcome.{answerOf, outcome};
-ghost use Rattle.sine.specs.Sine.{S, C};
 ghost use Rattle.transmitter.specs.Calls.{openOf, idleOf, charactersOf};
-ghost use Rattle.sending.specs.Numbers.{transmitter, opened};
-use transmitter::Sent;
+use calls::Answer;
+use transmitter::Opened;
 use transmitter::Transmitter;
 
-#[no_mangle]
-pub extern "C" fn modem_sine(phase: usize) -> i16
-    ensures { λ r. ⌜ r ≡ S phase ⌝ }
-{
-    sine::sine(phase)
+// What a sending call answers: the next state, and number and count of samples as fields of their own.
+#[repr(C)]
+pub struct Sending {
+    pub transmitter: Transmitter,
+    pub number: u8,
+    pub count: usize,
 }
 
+// The fresh state of a band.
 #[no_mangle]
-pub extern "C" fn modem_cosine(phase: usize) -> i16
-    ensures { λ r. ⌜ r ≡ C phase ⌝ }
+pub extern "C" fn modem_transmitter_open(band: u8) -> Opened
+    ensures { λ r. ⌜ r ≡ openOf band ⌝ }
 {
-    sine::cosine(phase)
+    Transmitter::open(band)
 }
 
-// Opens the wanted band and stores the state.
+// Sends three mark bits.
 #[no_mangle]
-pub extern "C" fn modem_transmitter_open(wanted: u8, band: &mut u8, phase: &mut u16) -> u8
-    ensures { λ r. ⌜ opened r (now (band .exit)) (now (phase .exit)) ≡ openOf wanted ⌝ }
+pub extern "C" fn modem_transmitter_idle(transmitter: Transmitter, out: &mut [i16]) -> Sending
+    ensures { λ r. ⌜ outcome (answerOf (r .number) (r .count)) (r .transmitter) (now (out .exit)) ≡ idleOf transmitter (now (out .entry)) ⌝ }
 {
-    let o = Transmitter::open(wanted);
-    let t = o.transmitter;
-    *band = t.band;
-    *phase = t.phase;
-    o.number
+    let idle = transmitter.idle(out);
+    sending_of(idle.transmitter, idle.answer)
 }
 
-// Sends three mark bits, and stores the next state and the count.
-#[no_mangle]
-pub extern "C" fn modem_transmitter_idle(
-    band: &mut u8,
-    phase: &mut u16,
-    out: &mut [i16],
-    count: &mut usize,
-) -> u8
-    ensures { λ r. ⌜ outcome (answerOf r (now (count .exit))) (transmitter (now (band .exit)) (now (phase .exit))) (now (out .exit))
-        ≡ idleOf (transmitter (now (band .entry)) (now (phase .entry))) (now (out .entry)) ⌝ }
-{
-    let t = Transmitter {
-        band: *band,
-        phase: *phase,
-    };
-    store(t.idle(out), band, phase, count)
-}
-
-// Sends bytes as characters, and stores the next state and the count.
+// Sends bytes as characters.
 #[no_mangle]
 pub extern "C" fn modem_transmitter_characters(
-    band: &mut u8,
-    phase: &mut u16,
+    transmitter: Transmitter,
     bytes: &[u8],
     out: &mut [i16],
-    count: &mut usize,
-) -> u8
-    ensures { λ r. ⌜ outcome (answerOf r (now (count .exit))) (transmitter (now (band .exit)) (now (phase .exit))) (now (out .exit))
-        ≡ charactersOf (transmitter (now (band .entry)) (now (phase .entry))) (now (bytes .entry)) (now (out .entry)) ⌝ }
+) -> Sending
+    ensures { λ r. ⌜ outcome (answerOf (r .number) (r .count)) (r .transmitter) (now (out .exit))
+        ≡ charactersOf transmitter (now (bytes .entry)) (now (out .entry)) ⌝ }
 {
-    let t = Transmitter {
-        band: *band,
-        phase: *phase,
-    };
-    store(t.characters(bytes, out), band, phase, count)
+    let sent = transmitter.characters(bytes, out);
+    sending_of(sent.transmitter, sent.answer)
 }
 
-// Stores what a sending call answered, and gives its number.
-fn store(sent: Sent, band: &mut u8, phase: &mut u16, count: &mut usize) -> u8
-    ensures { λ r. ⌜ (answerOf r (now (count .exit)) ≡ sent .answer)
-        × (transmitter (now (band .exit)) (now (phase .exit)) ≡ sent .transmitter) ⌝ }
+fn sending_of(transmitter: Transmitter, answer: Answer) -> Sending
+    ensures { λ r. ⌜ r ≡ record { transmitter = transmitter; number = answer .number; count = answer .count } ⌝ }
 {
-    let next = sent.transmitter;
-    let a = sent.answer;
-    *band = next.band;
-    *phase = next.phase;
-    *count = a.count;
-    a.number
+    Sending {
+        transmitter,
+        number: answer.number,
+        count: answer.count,
+    }
 }

@@ -1,4 +1,4 @@
--- The sheet calls: document 01, "Sheet and programs" and "Refused calls". Each has its table of refusals, in the order of the document's.
+-- The sheet calls: the specification, "Sheet and programs" and "Refused calls". Each has its table of refusals, in the specification's order.
 -- Assumes nothing.
 use mathlib.Core.Bool.{Bool, not}
 use mathlib.Core.List.{List, [], _∷_}

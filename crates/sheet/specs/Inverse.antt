@@ -1,4 +1,4 @@
--- Reading is the inverse of writing: document 01, "Sheet and programs".
+-- Reading is the inverse of writing: the specification, "Sheet and programs".
 -- Assumes nothing.
 use mathlib.Core.Path.{_≡_}
 use mathlib.Core.Bool.{true}

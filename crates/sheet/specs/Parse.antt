@@ -1,4 +1,4 @@
--- A text read as a sheet, byte by byte: document 01, "Sheet and programs". `Inverse` says that this undoes `sheetOf`.
+-- A text read as a sheet, byte by byte: the specification, "Sheet and programs". `Inverse` says that this undoes `sheetOf`.
 -- Assumes nothing.
 use mathlib.Core.Bool.{Bool, true, false, cond, _&&_}
 use mathlib.Core.List.{List, [], _∷_}

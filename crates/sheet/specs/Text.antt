@@ -1,4 +1,4 @@
--- The text of a sheet, in ASCII codes: document 01, "Sheet and programs".
+-- The text of a sheet, in ASCII codes: the specification, "Sheet and programs".
 -- Assumes nothing.
 use mathlib.Core.List.{List, [], _∷_, _++_}
 use Prim.Native.Nat.{ℕ, suc, _+_}

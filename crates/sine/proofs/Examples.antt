@@ -1,4 +1,4 @@
--- S at the phases of document 01's starred examples, so that nothing above this crate opens S for them.
+-- S at the phases of the specification's starred examples, so that nothing above this crate opens S for them.
 -- Assumes nothing.
 use mathlib.Core.Path.{_≡_, refl}
 use lib.IntN.{pos}

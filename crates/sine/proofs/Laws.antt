@@ -30,9 +30,6 @@ S-same p q e = sym (S-mod p) ∙ ap S e ∙ S-mod q
 pub S-period : (p : ℕ) → S (p + 1920) ≡ S p
 S-period p = S-same (p + 1920) p (omega arith)
 
-pub S-shift : (p k : ℕ) → S (p % 1920 + k) ≡ S (p + k)
-S-shift p k = S-same (p % 1920 + k) (p + k) (omega arith)
-
 -- ---- the two halves of the cycle
 
 S-first : (p : ℕ) → p % 1920 < 960 → S p ≡ half (p % 960)

@@ -1,4 +1,4 @@
--- S has the rule of document 01, and it is the only function that has it.
+-- S has the rule of the specification, and it is the only function that has it.
 -- Assumes nothing.
 use mathlib.Core.Path.{_≡_, _∙_, sym, ap}
 use Prim.Native.Nat.{ℕ, zero, suc, _+_, _*_, _-_, _/_, _%_, _<_, _≤_}

@@ -1,4 +1,4 @@
--- The sines among the starred bench examples of document 01.
+-- The sines among the starred bench examples of the specification.
 -- Assumes nothing.
 use mathlib.Core.Path.{_≡_}
 use lib.IntN.{pos, negsuc}

@@ -1,4 +1,4 @@
--- The sine in whole numbers: document 01, "Tones and sine". `SineRule` is what the document asks of S. `S` computes the numbers,
+-- The sine in whole numbers: the specification, "Tones and sine". `SineRule` is what it asks of S. `S` computes the numbers,
 -- and it is the one function with that rule (proofs/Rule: `S-rule`, `S-unique`, `S-only`).
 -- Assumes nothing.
 use mathlib.Core.Path.{_≡_}

@@ -1,4 +1,4 @@
--- Lists of sines: a tone's samples, the weights of two tones, and the table of one cycle. The definitions are ours; S is document 01's.
+-- Lists of sines: a tone's samples, the weights of two tones, and the table of one cycle. The definitions are ours; S is the specification's.
 -- Assumes nothing.
 use mathlib.Core.Path.{_≡_}
 use mathlib.Core.List.{List, [], _∷_, _++_}

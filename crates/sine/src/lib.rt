@@ -1,31 +1,16 @@
-// The sine table: 1,920 phases to the cycle, amplitude 6,000. Nothing above this crate sees the table: what its users know
-// of it is the rule S of specs/Sine.antt and the laws of proofs/Laws.antt.
+// The samples of a tone and the weights of two tones, from a sine table with 1,920 phases to the cycle and amplitude 6,000.
+// Nothing above this crate sees the table: its users know S of specs/Sine.antt, the lists of specs/Wave.antt, and their laws.
 ghost use mathlib.Core.Path.{_≡_};
 ghost use Prim.Native.Nat.{_+_, _%_, _<_, _≤_};
 ghost use lib.ListN.{length};
 ghost use lib.Seq.{sets};
-ghost use Rattle.sine.specs.Sine.{S, C};
 ghost use Rattle.sine.specs.Wave.{wave, quadratureOf, weightsOf, HoldsSine};
 
 mod table;
 
 use crate::table::sines;
 
-// S of document 01, at any phase.
-pub fn sine(phase: usize) -> i16
-    ensures { λ r. ⌜ r ≡ S phase ⌝ }
-{
-    sines()[phase % 1920]
-}
-
-// C of document 01: a quarter of a cycle ahead.
-pub fn cosine(phase: usize) -> i16
-    ensures { λ r. ⌜ r ≡ C phase ⌝ }
-{
-    sine(phase % 1920 + 480)
-}
-
-// The 32 samples of a tone from a phase on: what loops use.
+// The 32 samples of a tone from a phase on.
 pub fn tone(step: u16, phase: u16) -> [i16; 32]
     ensures { λ r. ⌜ r ≡ wave 32 step phase ⌝ }
 {

@@ -1,4 +1,4 @@
-// One cycle of the sine, S(0) to S(1919). Document 01 asks for all 1,920 numbers in the first edition.
+// One cycle of the sine, S(0) to S(1919). The specification asks for all 1,920 numbers in the first edition.
 ghost use Rattle.sine.specs.Wave.{HoldsSine};
 
 const SINE: [i16; 1920] = [

@@ -1,4 +1,4 @@
--- The front of a text, by which the names lines of a sheet are known (document 01, "Sheet and programs"). The definition is ours.
+-- The front of a text, by which the names lines of a sheet are known (the specification, "Sheet and programs"). The definition is ours.
 -- Assumes nothing.
 use mathlib.Core.Bool.{Bool, true, false, _&&_}
 use mathlib.Core.List.{List, [], _∷_}

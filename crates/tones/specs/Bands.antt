@@ -1,4 +1,4 @@
--- The bands and their tones: document 01, "Tones and sine".
+-- The bands and their tones: the specification, "Tones and sine".
 -- Assumes nothing.
 use mathlib.Core.Bool.{Bool, cond, _&&_}
 use mathlib.Core.List.{List, [], _∷_}

@@ -1,4 +1,4 @@
--- Ranges of numbers, and the range of a sample: document 01, "Reader, step by step".
+-- Ranges of numbers, and the range of a sample: the specification, "Reader, step by step".
 -- Assumes nothing.
 use mathlib.Core.Bool.{Bool, true, _&&_}
 use mathlib.Core.List.{List, [], _∷_}
@@ -19,7 +19,7 @@ areBetween low high (x ∷ xs) = isBetween low high x && areBetween low high xs
 abbrev pub isSample : ℤ → Bool
 isSample = isBetween (negsuc 8190) (pos 8191)
 
--- the most samples of a block, and of a sheet: document 01, "Reader, step by step" and "Sheet and programs"
+-- the most samples of a block, and of a sheet: the specification, "Reader, step by step" and "Sheet and programs"
 abbrev pub mostSamples : ℕ
 mostSamples = 16384
 

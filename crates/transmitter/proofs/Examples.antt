@@ -1,4 +1,4 @@
--- The starred bench examples of document 01.
+-- The starred bench examples of the specification.
 -- Assumes nothing.
 use mathlib.Core.Path.{_≡_, refl, _∙_}
 use mathlib.Core.List.{[], _∷_}

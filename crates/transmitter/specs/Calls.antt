@@ -1,4 +1,4 @@
--- The transmitter's calls: document 01, "Transmitter" and "Refused calls". Each has its table of refusals, in the order of the document's.
+-- The transmitter's calls: the specification, "Transmitter" and "Refused calls". Each has its table of refusals, in the specification's order.
 -- Assumes nothing.
 use mathlib.Core.Bool.{Bool, cond, not, _&&_}
 use mathlib.Core.List.{List, [], _∷_}

@@ -1,4 +1,4 @@
--- The starred bench examples of document 01, as one statement over the rules.
+-- The starred bench examples of the specification, as one statement over the rules.
 -- Assumes nothing.
 use mathlib.Core.Path.{_≡_}
 use mathlib.Core.List.{[], _∷_}

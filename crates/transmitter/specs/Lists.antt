@@ -1,5 +1,5 @@
--- Lists of sending calls (document 01, "Whole recordings"), and demand 2 over them: each sample is S at the sum of all steps so
--- far (document 01, "Transmitter"; decision 15).
+-- Lists of sending calls (the specification, "Whole recordings"), and demand 2 over them: each sample is S at the sum of all steps so
+-- far (the specification, "Transmitter"; decision 15).
 -- Assumes nothing.
 use mathlib.Core.Path.{_≡_}
 use mathlib.Core.Bool.{true}

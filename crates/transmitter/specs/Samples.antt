@@ -1,4 +1,4 @@
--- Bits and characters as samples: document 01, "Transmitter".
+-- Bits and characters as samples: the specification, "Transmitter".
 -- Assumes nothing.
 use mathlib.Core.List.{List, [], _∷_, _++_}
 use Prim.Native.Nat.{ℕ, zero, suc, _+_, _/_, _%_}

@@ -1,4 +1,4 @@
-// The transmitter: opening, idle and characters. Samples go to the front of a caller's buffer, document 01's lent output; the
+// The transmitter: opening, idle and characters. Samples go to the front of a caller's buffer, the specification's lent output; the
 // state goes in and comes back by value.
 ghost use mathlib.Core.Path.{_≡_};
 ghost use Rattle.calls.specs.Refusals.{firstOf};
@@ -14,13 +14,15 @@ use calls::Answer;
 // The most bytes of one call.
 pub const MOST_CHARACTERS: usize = 100;
 
-// A band, and the phase of the next sample in 1,920ths of a cycle.
+// A band, and the phase of the next sample in 1,920ths of a cycle. C programs hold it as it is.
+#[repr(C)]
 pub struct Transmitter {
     pub band: u8,
     pub phase: u16,
 }
 
-// What an opening answers: 0 and the fresh state, or the number of a refusal and the fresh state of band 1.
+// What an opening answers, in C too: 0 and the fresh state, or the number of a refusal and the fresh state of band 1.
+#[repr(C)]
 pub struct Opened {
     pub number: u8,
     pub transmitter: Transmitter,
@@ -33,7 +35,7 @@ pub struct Sent {
 }
 
 impl Transmitter {
-    // The fresh state of a band: document 01's opening.
+    // The fresh state of a band: the specification's opening.
     pub fn open(band: u8) -> Opened
         ensures { λ r. ⌜ r ≡ openOf band ⌝ }
     {

@@ -137,8 +137,8 @@ impl Lengths {
         for text in texts {
             for (byte, &lines) in (0..=255).zip(&self.0[&text.phase].characters) {
                 let bytes = text.bytes + lines.bytes;
-                let known = best.get(&lines.end);
-                if known.map_or(true, |known| better(bytes, known.bytes)) {
+                let mut known = best.get(&lines.end).into_iter();
+                if known.all(|known| better(bytes, known.bytes)) {
                     best.insert(lines.end, text.with(&[byte], lines));
                 }
             }

@@ -50,10 +50,10 @@ impl Met {
             *all += kind;
         }
         if !samples.is_empty() {
-            let Numbers { run, stage, .. } = reading.answer.state;
-            let [first, wait, slot, _] = stage.map(usize::from);
-            self.runs[first][usize::from(run)] += 1;
-            self.waits[slot][wait] += first;
+            let state = reading.answer.state;
+            let [stage, wait, slot, _] = state.stage_numbers().map(usize::from);
+            self.runs[stage][usize::from(state.run)] += 1;
+            self.waits[slot][wait] += stage;
         }
     }
 

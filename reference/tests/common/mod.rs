@@ -1,22 +1,32 @@
 //! What the test files share: one call made on either side, and compared. This
 //! file has the transmitter, `receiver` the receiver, `recording` what it reads,
 //! `states` what it goes on from, `refused` what it refuses in between and `met`
-//! what it gave. `process` runs the programs. `sheets` and `forms` have sheets and
-//! almost sheets, `lengths` how long they are, and `disturbed` what the program of
-//! that name prints. `declared` reads what the files of a crate say.
+//! what it gave; `sheet_calls` and `loopback` have other calls, and `lent` the lists
+//! that any call is lent. `process` runs the programs, and `faults` lets their reads
+//! and writes go wrong. `sheets` and `forms` have sheets and almost sheets, `lengths`
+//! how long they are, and `disturbances` what a line may add. `c` compiles C.
+//! `declared` reads what the files of a crate say, and `made` compares a file with
+//! what a program makes.
 
+pub mod c;
 pub mod declared;
-pub mod disturbed;
+pub mod disturbances;
+pub mod faults;
 pub mod forms;
 pub mod lengths;
+pub mod lent;
+pub mod loopback;
+pub mod made;
 pub mod met;
 pub mod process;
 pub mod receiver;
 pub mod recording;
 pub mod refused;
+pub mod sheet_calls;
 pub mod sheets;
 pub mod states;
 
+use lent::{no_sample, Lent};
 use reference::library;
 use reference::sine::Sines;
 use reference::transmitter::{self, Answer, State};
@@ -27,9 +37,6 @@ pub const BANDS: [u8; 2] = [1, 2];
 pub const NO_BAND: u8 = BANDS.len() as u8 + 1;
 pub const IDLE_SAMPLES: usize = 96;
 pub const CHARACTER_SAMPLES: usize = 320;
-
-/// Places before and behind the lent ones, to find a write outside them.
-pub const GUARD: usize = 8;
 
 /// The next band, and behind the last one the first.
 pub fn other_band(band: u8) -> u8 {
@@ -114,29 +121,15 @@ impl Side {
     /// every call: the places not covered by the count keep their fill, and
     /// a refusal hands the state back with count 0.
     pub fn call(self, call: Call, state: State, length: usize) -> Outcome {
-        let mut places: Vec<i16> = (0..length + 2 * GUARD).map(fill).collect();
-        let answer = self.answer(call, state, &mut places[GUARD..GUARD + length]);
+        let mut lent = Lent::new(length, no_sample);
+        let answer = self.answer(call, state, lent.places());
         let what = || format!("{self:?}: {call:?} from {state:?} into {length}");
-        assert!(answer.count <= length, "{}: {answer:?}", what());
         if answer.number != 0 {
             assert_eq!((answer.count, answer.state), (0, state), "{}", what());
         }
-        let sent = GUARD..GUARD + answer.count;
-        let changed = |&place: &usize| !sent.contains(&place) && places[place] != fill(place);
-        if let Some(place) = (0..places.len()).find(changed) {
-            panic!("{}: place {place} - {GUARD} changed", what());
-        }
-        places.truncate(GUARD + length);
-        places.drain(..GUARD);
+        let places = lent.returned(answer.count, what);
         Outcome { answer, places }
     }
-}
-
-/// Differs from place to place and is never a sample, which is at most 6000
-/// either way.
-fn fill(place: usize) -> i16 {
-    let above = i16::try_from(6_001 + place / 2 % 26_000).expect("at most 32000");
-    [above, -above][place % 2]
 }
 
 /// The library must answer the call as the reference does, in every place.

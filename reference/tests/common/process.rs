@@ -25,6 +25,17 @@ pub fn started(program: &str, input: impl Into<Stdio>, output: impl Into<Stdio>)
         .expect("the program is built before these tests")
 }
 
+/// Starts a program, whose path is `$0`, by a line of a shell.
+pub fn in_shell(program: &str, line: &str) -> Child {
+    Command::new("sh")
+        .args(["-c", line, &path(program)])
+        .stdin(Stdio::piped())
+        .stdout(Stdio::piped())
+        .stderr(Stdio::piped())
+        .spawn()
+        .expect("there is a shell")
+}
+
 pub fn input_of(program: &mut Child) -> ChildStdin {
     program.stdin.take().expect("standard input is a pipe")
 }
@@ -92,12 +103,8 @@ fn file(program: &str, name: &str) -> Vec<u8> {
     fs::read(format!("{folder}{program}/{name}")).expect("the file is there")
 }
 
-/// The output that a program is held to where it is proved.
-pub fn output_file(program: &str) -> Vec<u8> {
-    file(program, "stdout")
-}
-
-/// The input with which a program is run there, and that output.
+/// The input with which a program is run where it is proved, and the output that
+/// it is held to there.
 pub fn files(program: &str) -> [Vec<u8>; 2] {
-    [file(program, "stdin"), output_file(program)]
+    ["stdin", "stdout"].map(|name| file(program, name))
 }

@@ -1,11 +1,12 @@
 //! A receiver call made on either side, and compared.
 
-use super::{sines, Side, GUARD, SIDES};
+use super::lent::{no_event, Lent};
+use super::{sines, Side, SIDES};
 use reference::library::{self, BlockAnswer, Numbers};
 use reference::receiver::{self, places_needed, Answer, State};
 use reference::sine::Sines;
 
-// Document 01's numbers once more, so that a slip in the reference's own shows.
+// The specification's numbers once more, so that a slip in the reference's own shows.
 pub const WINDOW: usize = 32;
 pub const MOST_SAMPLES: usize = 16_384;
 pub const NO_STOP_BIT: u16 = 256;
@@ -17,7 +18,10 @@ pub const FRESH: Numbers = Numbers {
     band: 1,
     window: [0; WINDOW],
     run: 0,
-    stage: [0; 4],
+    stage: 0,
+    wait: 0,
+    slot: 0,
+    byte: 0,
 };
 
 /// An answer with the lent list as it stood on return.
@@ -87,18 +91,11 @@ pub enum Entry {
 pub const ENTRIES: [Entry; 2] = [Entry::ByValue, Entry::Lent];
 
 impl Entry {
-    fn answer(self, mut state: Numbers, samples: &[i16], events: &mut [u16]) -> BlockAnswer {
+    fn answer(self, state: Numbers, samples: &[i16], events: &mut [u16]) -> BlockAnswer {
         match self {
             Entry::Reference => in_numbers(receiver::block, state, samples, events),
             Entry::ByValue => library::receiver_block(state, samples, events),
-            Entry::Lent => {
-                let (number, count) = library::receiver_block_lent(&mut state, samples, events);
-                BlockAnswer {
-                    number,
-                    count,
-                    state,
-                }
-            }
+            Entry::Lent => library::receiver_block_lent(state, samples, events),
         }
     }
 
@@ -119,26 +116,14 @@ pub fn guarded(
     length: usize,
     who: impl Fn() -> String,
 ) -> Reading {
-    let mut places: Vec<u16> = (0..length + 2 * GUARD).map(fill).collect();
-    let answer = call(samples, &mut places[GUARD..GUARD + length]);
+    let mut lent = Lent::new(length, no_event);
+    let answer = call(samples, lent.places());
     let what = || format!("{}: {}", who(), told(state, samples, length));
-    assert!(answer.count <= length, "{}: {answer:?}", what());
     if answer.number != 0 {
         assert_eq!((answer.count, answer.state), (0, state), "{}", what());
     }
-    let filled = GUARD..GUARD + answer.count;
-    let changed = |&place: &usize| !filled.contains(&place) && places[place] != fill(place);
-    if let Some(place) = (0..places.len()).find(changed) {
-        panic!("{}: place {place} - {GUARD} changed", what());
-    }
-    places.truncate(GUARD + length);
-    places.drain(..GUARD);
+    let places = lent.returned(answer.count, what);
     Reading { answer, places }
-}
-
-/// Differs from place to place and is never an event.
-fn fill(place: usize) -> u16 {
-    u16::try_from(1_000 + place % 60_000).expect("at most 60999")
 }
 
 /// A call in words, without its many samples.

@@ -6,11 +6,12 @@ use super::{sines, BANDS, NO_BAND};
 use reference::library::Numbers;
 use reference::random::Random;
 
-/// The ranges of document 01, and the two forms of a stage.
+/// The ranges of the specification. Of a search nothing else is looked at.
 pub fn is_good(state: &Numbers) -> bool {
-    let [first, wait, slot, byte] = state.stage.map(u32::from);
+    let [stage, wait, slot, byte] = state.stage_numbers().map(u32::from);
     let stage = match slot {
-        _ if first == 0 => true,
+        _ if stage == 0 => true,
+        _ if stage > 1 => false,
         0 => (1..=16).contains(&wait) && byte == 0,
         1 => (1..=32).contains(&wait) && byte == 0,
         2..=9 => (1..=32).contains(&wait) && byte < 2_u32.pow(slot - 1),
@@ -105,7 +106,7 @@ pub fn any_block(random: &mut Random, band: u8) -> (Vec<i16>, usize) {
     (samples, places)
 }
 
-/// Any state in range, mostly waiting, its stage in any form.
+/// Any state in range, mostly waiting; a search may have any numbers behind it.
 pub fn good_state(random: &mut Random) -> Numbers {
     let band = BANDS[random.below(BANDS.len())];
     let window = any_samples(random, band, WINDOW);
@@ -120,23 +121,20 @@ pub fn good_state(random: &mut Random) -> Numbers {
             [0, number(), number(), number()]
         }
         _ => {
-            let first = match random.below(4) {
-                0 => 1 + random.below(255),
-                _ => 1,
-            };
             let slot = random.below(10) as u8;
             let wait = 1 + random.below(usize::from(longest_wait(slot)));
             let byte = random.below(byte_limit(slot));
-            [first as u8, wait as u8, slot, byte as u8]
+            [1, wait as u8, slot, byte as u8]
         }
     };
     let window = window.try_into().expect("a whole window");
+    let fresh = Numbers { band, ..FRESH };
     let state = Numbers {
-        band,
         window,
         run,
-        stage,
-    };
+        ..fresh
+    }
+    .with_stage(stage);
     assert!(is_good(&state), "{state:?}");
     state
 }
@@ -144,27 +142,35 @@ pub fn good_state(random: &mut Random) -> Numbers {
 /// A state in range with one field put out of it.
 pub fn hostile_state(random: &mut Random) -> Numbers {
     let mut state = good_state(random);
-    match random.below(6) {
+    match random.below(7) {
         0 => state.band = [0, NO_BAND, NO_BAND + 1, 128, 255][random.below(5)],
         1 => state.run = 33 + random.below(256 - 33) as u8,
         2 => {
             let bad = [-32_768, -8_193, -8_192, 8_192, 8_193, 32_767];
             state.window[random.below(WINDOW)] = bad[random.below(bad.len())];
         }
-        3 => state.stage = [1, 0, random.below(10) as u8, 0],
-        4 => state.stage = [1, 1, 10 + random.below(246) as u8, 0],
-        _ => {
-            let slot = random.below(9) as u8;
-            let least = byte_limit(slot);
-            let byte = least + random.below(256 - least);
-            state.stage = [1, 1, slot, byte as u8];
-        }
+        3 => state.stage = 2 + random.below(256 - 2) as u8,
+        _ => state = state.with_stage(hostile_wait(random)),
     }
     assert!(!is_good(&state), "{state:?}");
     state
 }
 
+/// A stage that waits with one of its numbers out of range.
+fn hostile_wait(random: &mut Random) -> [u8; 4] {
+    match random.below(3) {
+        0 => [1, 0, random.below(10) as u8, 0],
+        1 => [1, 1, 10 + random.below(246) as u8, 0],
+        _ => {
+            let slot = random.below(9) as u8;
+            let least = byte_limit(slot);
+            let byte = least + random.below(256 - least);
+            [1, 1, slot, byte as u8]
+        }
+    }
+}
+
 /// A fresh state of band 1 with another stage.
 pub fn with_stage(stage: [u8; 4]) -> Numbers {
-    Numbers { stage, ..FRESH }
+    FRESH.with_stage(stage)
 }

@@ -1,7 +1,6 @@
--- `receiving::modem_receiver_block` meets its contract: what is stored is what the call answered.
+-- `receiving::modem_receiver_block` meets its contract.
 -- Assumes nothing.
 use borrow.Author.Needs.{needs}
-use Rattle.receiving.specs.Numbers.{stateNumbers}
 use Rattle.receiving.proofs.Stored.{stored}
 use Rattle.receiving.proofs.modem_receiver_block.Statement.{statement}
 use Rattle.receiving.proofs.modem_receiver_block.Tie as tie
@@ -12,27 +11,19 @@ receiver-of-requires c κs = tt
 block-requires : tie.Need-block-requires
 block-requires c κs = tt
 
-store-reading-requires : tie.Need-store-reading-requires
-store-reading-requires c κs = tt
+reading-numbers-requires : tie.Need-reading-numbers-requires
+reading-numbers-requires c κs = tt
 
 same-length : tie.Need-same-length
 same-length c = search needs
 
 returns : tie.Need-returns
 returns c =
-    let kept = c .store-reading in
-    let read = c .before .before .before .before .before .before .before .before .block in
-    let made = c .before .before .before .before .before .before .before .before .before .before .receiver-of in
-    let given = c .before .before .before .before .before .before .before .before .before .before .before .before .before .before .before .before .args in
-    let left = kept .last .1 in
-    stored
-    (stateNumbers (given .band .now) (given .window .now) (given .run .now) (given .stage .now))
-    (stateNumbers (left .0) (left .1 .0) (left .1 .1 .0) (left .1 .1 .1 .0))
-    _
-    _
-    (made .ensures)
-    (read .ensures)
-    (kept .ensures)
+    let read = c .before .before .before in
+    let made = read .before .before in
+    let handed = made .before .before .args .receiver in
+    stored handed _ _ (made .receiver-of .ensures) (read .block .ensures) (c .reading-numbers .ensures)
 
 pub modem-receiver-block-spec : {M : Type 1} → statement M
-modem-receiver-block-spec = tie.close (tie.spec receiver-of-requires block-requires store-reading-requires same-length returns)
+modem-receiver-block-spec =
+    tie.close (tie.spec receiver-of-requires block-requires reading-numbers-requires same-length returns)

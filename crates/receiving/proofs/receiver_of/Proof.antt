@@ -10,8 +10,8 @@ stage-of-requires c κs = tt
 
 returns : tie.Need-returns
 returns c =
-    let a = c .before .args in
-    ap (λ (s : Stage). record { band = a .band; window = a .window; run = a .run; stage = s }) (c .stage-of .ensures)
+    let s = c .before .before .args .state in
+    ap (λ (stage : Stage). record { band = s .band; window = s .window; run = s .run; stage = stage }) (c .stage-of .ensures)
 
 pub receiver-of-spec : {M : Type 1} → statement M
 receiver-of-spec = tie.close (tie.spec stage-of-requires returns)

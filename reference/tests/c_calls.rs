@@ -1,0 +1,130 @@
+//! Every call made by a C program, `every_call.c`, gives what it gives when made
+//! from Rust, and keeps to the lists that it is lent.
+
+use crate::common::c::{compiled, file, has_sanitizers, has_valgrind, printed, Linked, SANITIZERS};
+use reference::library::{self, Numbers};
+use reference::receiver::places_needed;
+use reference::transmitter::Answer;
+use std::path::PathBuf;
+
+const BYTES: [u8; 5] = [0x00, 0x41, 0xff, 0x55, 0x0a];
+
+fn sum<T: Copy + Into<i64>>(list: &[T]) -> i64 {
+    let plus = |sum, &number: &T| (sum * 31 + number.into() + 40_000) % 1_000_003;
+    list.iter().fold(0, plus)
+}
+
+fn samples(list: &[i16]) -> String {
+    format!("  samples {}\n", sum(list))
+}
+
+fn events(list: &[u16]) -> String {
+    format!("  events {}\n", sum(list))
+}
+
+fn answer(call: &str, number: u8, count: usize) -> String {
+    format!("{call}: {number} {count}\n")
+}
+
+fn receiver(state: &Numbers) -> String {
+    let [stage, wait, slot, byte] = state.stage_numbers();
+    let Numbers { band, run, .. } = state;
+    let line = format!("  receiver {band} {run} {stage} {wait} {slot} {byte}\n");
+    line + &samples(&state.window)
+}
+
+fn sent(call: &str, found: Answer, out: &[i16]) -> String {
+    let line = answer(call, found.number, found.count);
+    let (band, phase) = (found.state.band, found.state.phase);
+    line + &format!("  transmitter {band} {phase}\n") + &samples(out)
+}
+
+fn transmitter_calls(band: u8, fewer: usize) -> String {
+    let (number, state) = library::open(band);
+    let mut out = vec![0x7777; 96 - fewer];
+    let idle = library::idle(state, &mut out);
+    let lines = answer("open", number, 0) + &sent("idle", idle, &out);
+    let mut out = vec![0x7777; 320 * BYTES.len() - fewer];
+    let characters = library::characters(idle.state, &BYTES, &mut out);
+    lines + &sent("characters", characters, &out)
+}
+
+fn receiver_calls(band: u8, block: &[i16], fewer: usize) -> String {
+    let (number, mut state) = library::receiver_open(band);
+    let mut lines = answer("receiver", number, 0) + &receiver(&state);
+    for _ in 0..2 {
+        let mut list = vec![0x7777; places_needed(block.len()) - fewer];
+        let found = library::receiver_block(state, block, &mut list);
+        lines += &answer("block", found.number, found.count);
+        lines += &(receiver(&found.state) + &events(&list));
+        state = found.state;
+    }
+    lines
+}
+
+fn sheet_calls(band: u8, block: &[i16], fewer: usize) -> String {
+    let mut text = vec![0; 65_536];
+    let written = library::sheet_write(band, block, &mut text);
+    let mut out = vec![0x7777; block.len() - fewer];
+    let read = library::sheet_read(&text[..written.count], &mut out);
+    let lines = answer("write", written.number, written.count);
+    let lines = lines + &answer("read", read.number, read.count);
+    lines + &format!("  band {}\n", read.band) + &samples(&out)
+}
+
+fn whole_calls(band: u8, fewer: usize) -> String {
+    let count = 192 + 320 * BYTES.len();
+    let mut out = vec![0x7777; count - fewer];
+    let message = library::message_send(band, &BYTES, &mut out);
+    let mut lines = answer("message", message.number, message.count) + &samples(&out);
+    lines += &receiver_calls(band, &out, fewer);
+    lines += &sheet_calls(band, &out, fewer);
+    let sign = |place| if place % 3 == 0 { 100 } else { -100 };
+    let added: Vec<i16> = (0..count).map(sign).collect();
+    let mut list = vec![0x7777; BYTES.len()];
+    let found = library::loopback(band, &BYTES, &added, 100, &mut out, &mut list);
+    lines += &answer("loopback", found.number, found.count);
+    lines + &samples(&out) + &events(&list)
+}
+
+fn expected() -> String {
+    let calls = |band, fewer| transmitter_calls(band, fewer) + &whole_calls(band, fewer);
+    (0..=3)
+        .map(|band| calls(band, 0) + &calls(band, 1))
+        .collect()
+}
+
+fn program(name: &str, more: &[&str], linked: Linked) -> PathBuf {
+    compiled(name, &file("reference/tests/every_call.c"), more, linked)
+}
+
+#[test]
+fn with_both_libraries() {
+    for (name, linked) in [("calls", Linked::Static), ("calls-shared", Linked::Shared)] {
+        for (level, name) in [("-O0", name.to_string()), ("-O2", format!("{name}-2"))] {
+            let found = printed(program(&name, &[level], linked), &[]);
+            assert_eq!(found, expected(), "{name}");
+        }
+    }
+}
+
+#[test]
+fn with_sanitizers() {
+    if has_sanitizers() {
+        let more = ["-g", SANITIZERS, "-fno-sanitize-recover=all"];
+        let program = program("calls-sanitized", &more, Linked::Static);
+        assert_eq!(printed(program, &[]), expected());
+    }
+}
+
+/// No place outside the lists is read or written, and nothing is decided by a
+/// place that nobody wrote.
+#[test]
+fn under_valgrind() {
+    if has_valgrind() {
+        let program = program("calls-watched", &["-g"], Linked::Static);
+        let program = program.to_str().expect("UTF-8");
+        let found = printed("valgrind", &["--quiet", "--error-exitcode=9", program]);
+        assert_eq!(found, expected());
+    }
+}

@@ -1,0 +1,50 @@
+//! A message sent, disturbed and read back by the library.
+
+use super::lent::{no_event, no_sample, Lent};
+use reference::library::{self, CallAnswer};
+
+pub struct Call<'a> {
+    pub band: u8,
+    pub message: &'a [u8],
+    pub added: &'a [i16],
+    pub block: usize,
+}
+
+impl Call<'_> {
+    pub fn told(&self) -> String {
+        let Call {
+            band,
+            message,
+            added,
+            block,
+        } = self;
+        let (count, numbers) = (message.len(), added.len());
+        format!("band {band}, {count} bytes, {numbers} numbers, blocks of {block}")
+    }
+
+    /// Makes the call with so many places for samples and for events. None may
+    /// have changed but those of an accepted call at the front.
+    pub fn make(&self, places: [usize; 2]) -> (CallAnswer, Vec<i16>, Vec<u16>) {
+        let mut samples = Lent::new(places[0], no_sample);
+        let mut events = Lent::new(places[1], no_event);
+        let answer = library::loopback(
+            self.band,
+            self.message,
+            self.added,
+            self.block,
+            samples.places(),
+            events.places(),
+        );
+        let written = if answer.number == 0 {
+            192 + 320 * self.message.len()
+        } else {
+            0
+        };
+        let what = || format!("{} into {places:?}: {answer:?}", self.told());
+        let mut samples = samples.returned(written, what);
+        samples.truncate(written);
+        let mut events = events.returned(answer.count, what);
+        events.truncate(answer.count);
+        (answer, samples, events)
+    }
+}

@@ -1,0 +1,145 @@
+/* Makes every call of the header with lists on the heap of exactly the lengths that are told, so that a tool that watches memory
+ * sees a place too many. Prints what each call answers, and a sum over each list afterwards. */
+#include <stdio.h>
+#include <stdlib.h>
+#include <string.h>
+
+#include "modem.h"
+
+#define BYTES 5
+
+static void *places(size_t count, size_t size)
+{
+    void *list = malloc(count * size + (count == 0));
+    if (list == NULL)
+        exit(3);
+    memset(list, 0x77, count * size);
+    return list;
+}
+
+static unsigned long plus(unsigned long sum, long number)
+{
+    return (sum * 31 + (unsigned long)(number + 40000)) % 1000003;
+}
+
+static void put_samples(const int16_t *list, size_t count)
+{
+    unsigned long sum = 0;
+    for (size_t i = 0; i < count; i++)
+        sum = plus(sum, list[i]);
+    printf("  samples %lu\n", sum);
+}
+
+static void put_events(const uint16_t *list, size_t count)
+{
+    unsigned long sum = 0;
+    for (size_t i = 0; i < count; i++)
+        sum = plus(sum, list[i]);
+    printf("  events %lu\n", sum);
+}
+
+static void put_answer(const char *call, unsigned number, size_t count)
+{
+    printf("%s: %u %zu\n", call, number, count);
+}
+
+static void put_receiver(modem_receiver r)
+{
+    printf("  receiver %d %d %d %d %d %d\n", r.band, r.run, r.stage, r.wait, r.slot, r.byte);
+    put_samples(r.window, 32);
+}
+
+static void put_sent(const char *call, modem_sent sent, int16_t *out, size_t count)
+{
+    put_answer(call, sent.number, sent.count);
+    printf("  transmitter %d %d\n", sent.transmitter.band, sent.transmitter.phase);
+    put_samples(out, count);
+    free(out);
+}
+
+static void transmitter_calls(uint8_t band, const uint8_t *bytes, size_t fewer)
+{
+    modem_transmitter_opened opened = modem_transmitter_open(band);
+    size_t idle = MODEM_IDLE_SAMPLES - fewer, all = MODEM_CHARACTER_SAMPLES * BYTES - fewer;
+    int16_t *out = places(idle, sizeof *out);
+    modem_sent sent;
+    put_answer("open", opened.number, 0);
+    sent = modem_transmitter_idle(opened.transmitter, out, idle);
+    put_sent("idle", sent, out, idle);
+    out = places(all, sizeof *out);
+    sent = modem_transmitter_characters(sent.transmitter, bytes, BYTES, out, all);
+    put_sent("characters", sent, out, all);
+}
+
+/* A block, and the same again from the state that it gave. */
+static void receiver_calls(uint8_t band, const int16_t *samples, size_t count, size_t fewer)
+{
+    modem_receiver_opened opened = modem_receiver_open(band);
+    modem_receiver receiver = opened.receiver;
+    size_t all = MODEM_EVENT_PLACES(count) - fewer;
+    put_answer("receiver", opened.number, 0);
+    put_receiver(receiver);
+    for (int i = 0; i < 2; i++) {
+        uint16_t *events = places(all, sizeof *events);
+        modem_block block = modem_receiver_block(receiver, samples, count, events, all);
+        put_answer("block", block.number, block.count);
+        put_receiver(block.receiver);
+        put_events(events, all);
+        free(events);
+        receiver = block.receiver;
+    }
+}
+
+static void sheet_calls(uint8_t band, const int16_t *samples, size_t count, size_t fewer)
+{
+    uint8_t *text = places(MODEM_MOST_SHEET_BYTES, 1);
+    modem_answer written = modem_sheet_write(band, samples, count, text, MODEM_MOST_SHEET_BYTES);
+    size_t all = count - fewer;
+    int16_t *out = places(all, sizeof *out);
+    uint8_t *exact = places(written.count, 1);
+    modem_sheet sheet;
+    put_answer("write", written.number, written.count);
+    memcpy(exact, text, written.count);
+    sheet = modem_sheet_read(exact, written.count, out, all);
+    put_answer("read", sheet.number, sheet.count);
+    printf("  band %d\n", sheet.band);
+    put_samples(out, all);
+    free(text);
+    free(out);
+    free(exact);
+}
+
+static void whole_calls(uint8_t band, const uint8_t *bytes, size_t fewer)
+{
+    size_t count = MODEM_MESSAGE_SAMPLES(BYTES), all = count - fewer;
+    int16_t *added = places(count, sizeof *added), *samples = places(all, sizeof *samples);
+    uint16_t *events = places(BYTES, sizeof *events);
+    modem_answer answer = modem_message_send(band, bytes, BYTES, samples, all);
+    put_answer("message", answer.number, answer.count);
+    put_samples(samples, all);
+    receiver_calls(band, samples, all, fewer);
+    sheet_calls(band, samples, all, fewer);
+    for (size_t i = 0; i < count; i++)
+        added[i] = i % 3 == 0 ? MODEM_DISTURBANCE : -MODEM_DISTURBANCE;
+    answer = modem_loopback(band, bytes, BYTES, added, count, 100, samples, all, events, BYTES);
+    put_answer("loopback", answer.number, answer.count);
+    put_samples(samples, all);
+    put_events(events, BYTES);
+    free(added);
+    free(samples);
+    free(events);
+}
+
+int main(void)
+{
+    const uint8_t text[BYTES] = {0x00, 0x41, 0xff, 0x55, 0x0a};
+    uint8_t *bytes = places(BYTES, 1);
+    memcpy(bytes, text, BYTES);
+    for (uint8_t band = 0; band <= 3; band++)
+        for (size_t fewer = 0; fewer <= 1; fewer++) {
+            transmitter_calls(band, bytes, fewer);
+            whole_calls(band, bytes, fewer);
+        }
+    free(bytes);
+    return 0;
+}
