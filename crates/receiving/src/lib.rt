@@ -39,11 +39,11 @@ pub struct Block {
 }
 
 // The numbers of a stage by themselves.
-pub struct StageNumbers {
-    pub stage: u8,
-    pub wait: u8,
-    pub slot: u8,
-    pub byte: u8,
+struct StageNumbers {
+    stage: u8,
+    wait: u8,
+    slot: u8,
+    byte: u8,
 }
 
 // Opens a band.
