@@ -43,6 +43,7 @@ extern "C" {
 /* An event below 256 is a character. */
 #define MODEM_NO_STOP 256
 #define MODEM_CARRIER_LOST 257
+#define MODEM_BREAK 258
 
 typedef struct {
     uint8_t number;
@@ -76,9 +77,13 @@ modem_sent modem_transmitter_idle(modem_transmitter transmitter, int16_t *out, s
 modem_sent modem_transmitter_characters(modem_transmitter transmitter, const uint8_t *bytes, size_t n,
                                         int16_t *out, size_t places);
 
+/* The stages of a receiver. There is no other. */
+#define MODEM_SEARCHING 0 /* for a start bit */
+#define MODEM_WAITING 1   /* `wait` samples for the bit `slot` (0 start, 1 to 8 data, 9 stop); `byte` has the data bits so far */
+#define MODEM_HELD 2      /* a break, until mark is back */
+
 /* The receiver: the last 32 samples, oldest first; for how many samples in a row the level has been good, at most 32; and the
- * stage. At stage 0 it searches, and wait, slot and byte are 0. At stage 1 it waits `wait` samples for the bit `slot` (0 start,
- * 1 to 8 data, 9 stop), and `byte` has the data bits so far. There is no other stage. */
+ * stage. Where it does not wait, wait, slot and byte are 0. */
 typedef struct {
     uint8_t band;
     int16_t window[32];

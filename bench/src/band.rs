@@ -13,8 +13,8 @@ use std::path::Path;
 /// The characters of the sending that all read, and of shorter ones that show
 /// how the time grows.
 const LENGTHS: [usize; 3] = [100_000, 10_000, 1_000];
-/// The samples of silence, noise and idle mark: a multiple of 1,920, so that idle
-/// mark ends at the phase 0 that the sending behind it begins with.
+/// The samples of silence, noise, idle mark and breaks: a multiple of 1,920, so that
+/// a tone ends at the phase 0 that the sending behind it begins with.
 pub const SAMPLES: usize = 2_000 * 1_920;
 /// How many calls of one sample or none are made.
 const CALLS: usize = 300_000;
@@ -67,6 +67,14 @@ impl Band<'_> {
             self.silence(&Recording::silence(sines, band, SAMPLES)),
             self.noise(&Recording::noise(sines, band, SAMPLES)),
             self.idle_mark(&Recording::idle_mark(sines, band, SAMPLES)),
+            self.held(
+                "break held in space",
+                &Recording::held_space(sines, band, SAMPLES),
+            ),
+            self.held(
+                "break held in silence",
+                &Recording::held_silence(sines, band, SAMPLES),
+            ),
             self.small_blocks(&sendings[0]),
             self.block_sizes(&sendings[1]),
             self.calls("no samples", 0),
@@ -113,6 +121,11 @@ impl Band<'_> {
         entries.push(in_place.with(Bar::at_least(1.0)));
         entries.extend(spandsp(mark, BLOCK, Bar::at_least(1.7)));
         self.print("idle mark", Unit::Speed, &entries)
+    }
+
+    fn held(&self, title: &str, recording: &Recording) -> bool {
+        let entries = [library(recording), self.same_method(recording)];
+        self.print(title, Unit::Speed, &entries)
     }
 
     fn small_blocks(&self, long: &Recording) -> bool {

@@ -27,7 +27,7 @@ const BANDS: [u8; 2] = [1, 2];
 
 fn say_what_is_measured() {
     println!(
-        "sendings of random characters; silence, noise and idle mark of {SAMPLES} samples (seed {SEED})"
+        "sendings of random characters; silence, noise, idle mark and breaks of {SAMPLES} samples (seed {SEED})"
     );
     println!(
         "each sample altered by -{DISTURBANCE} to {DISTURBANCE} at random; \

@@ -1,15 +1,17 @@
 //! The recordings that are read.
 
 use reference::random::Random;
-use reference::receiver::{self, places_needed, LARGEST_SAMPLE, MOST_SAMPLES};
+use reference::receiver::{self, places_needed, BREAK, LARGEST_SAMPLE, MOST_SAMPLES};
 use reference::sine::Sines;
 use reference::transmitter::{self, STEPS};
 
 pub const SEED: u64 = 20;
 pub const DISTURBANCE: i16 = 100;
-/// Sent behind silence and idle mark, which have no event of their own: so a
-/// reader that loses its place in them is caught.
+/// Sent behind silence, idle mark and a break, which have no event of their own or
+/// one: so a reader that loses its place in them is caught.
 const END: &[u8] = b"END";
+/// After so many samples of space the break has been told.
+const TOLD: usize = 400;
 const SAMPLES_PER_SECOND: u32 = 9_600;
 const BYTES_PER_SAMPLE: u32 = 2;
 
@@ -38,21 +40,33 @@ impl Recording {
 
     /// Silence and the end, each sample altered likewise.
     pub fn silence(sines: &Sines, band: u8, length: usize) -> Recording {
-        Recording::ended(sines, band, vec![0; length])
+        Recording::ended(sines, band, vec![0; length], &[])
     }
 
     /// The tone of mark and the end, each sample altered likewise.
     pub fn idle_mark(sines: &Sines, band: u8, length: usize) -> Recording {
-        let step = usize::from(STEPS[usize::from(band) - 1][1]);
-        let mark = (0..length).map(|i| sines.s(i * step));
-        Recording::ended(sines, band, mark.collect())
+        Recording::ended(sines, band, tone(sines, band, 1, length), &[])
     }
 
-    fn ended(sines: &Sines, band: u8, mut samples: Vec<i16>) -> Recording {
+    /// The tone of space, which is a break, and the end, each sample altered
+    /// likewise.
+    pub fn held_space(sines: &Sines, band: u8, length: usize) -> Recording {
+        Recording::ended(sines, band, tone(sines, band, 0, length), &[BREAK])
+    }
+
+    /// The same with silence as soon as the break is told. It is still held there.
+    pub fn held_silence(sines: &Sines, band: u8, length: usize) -> Recording {
+        let mut samples = tone(sines, band, 0, length);
+        samples[TOLD..].fill(0);
+        Recording::ended(sines, band, samples, &[BREAK])
+    }
+
+    /// Samples with these events, and the end behind them.
+    fn ended(sines: &Sines, band: u8, mut samples: Vec<i16>, events: &[u16]) -> Recording {
         samples.extend(transmitter::sending(sines, band, END));
         let samples = disturbed(samples, Random::new(SEED));
         let recording = Recording::of(sines, band, samples);
-        assert!(recording.events == as_events(END));
+        assert!(recording.events == [events, &as_events(END)].concat());
         recording
     }
 
@@ -99,6 +113,12 @@ impl Recording {
 
 fn as_events(message: &[u8]) -> Vec<u16> {
     message.iter().map(|&byte| byte.into()).collect()
+}
+
+/// So many samples of the tone of a bit.
+fn tone(sines: &Sines, band: u8, bit: usize, length: usize) -> Vec<i16> {
+    let step = usize::from(STEPS[usize::from(band) - 1][bit]);
+    (0..length).map(|i| sines.s(i * step)).collect()
 }
 
 /// The events of the receiver that weighs every window and is not measured.

@@ -1,8 +1,9 @@
 //! The receiver's block call written for speed: only those windows are weighed
 //! that something asks for. A wait asks for the window of its slot, and a search
-//! for none at which the run cannot be full. The run is counted backwards, when
-//! a window of space in a search or the block's end asks for it. One of the three
-//! loops that `bench/` measures beside the library.
+//! or a held break for none at which the run cannot be full. The run is counted
+//! backwards, when a window of space in a search, one of mark in a break or the
+//! block's end asks for it. One of the three loops that `bench/` measures beside
+//! the library.
 
 use crate::in_place::{head, refusal, sum, Events, Weights, HEAD};
 use crate::receiver::{
@@ -120,9 +121,11 @@ impl<'a> Reading<'a> {
         (self.next - self.since) as u8
     }
 
-    /// Until a start is found, until the next window at which one can be found
-    /// is farther on, or to the end.
-    fn search(&mut self) -> Stage {
+    /// Until a window with a full run is one that is sought, until the next window
+    /// with which the run can be full is farther on, or to the end. Returns whether
+    /// one was found.
+    #[inline]
+    fn find(&mut self, is_sought: impl Fn(i64, i64) -> bool) -> bool {
         let first = self.next.max(self.since + FULL - 1);
         if first >= self.end {
             self.pass_all();
@@ -134,14 +137,30 @@ impl<'a> Reading<'a> {
                 break;
             }
             self.pass_good(window);
-            if space > mark {
+            if is_sought(space, mark) {
                 if self.run() == FULL_RUN {
-                    return waiting(HALF_BIT, 0, 0);
+                    return true;
                 }
                 break;
             }
         }
-        Stage::Searching
+        false
+    }
+
+    fn search(&mut self) -> Stage {
+        if self.find(|space, mark| space > mark) {
+            waiting(HALF_BIT, 0, 0)
+        } else {
+            Stage::Searching
+        }
+    }
+
+    fn hold(&mut self) -> Stage {
+        if self.find(|space, mark| mark >= space) {
+            Stage::Searching
+        } else {
+            Stage::Held
+        }
     }
 
     /// Until the slot is taken, or to the end.
@@ -169,6 +188,7 @@ impl<'a> Reading<'a> {
             (stage, event) = match stage {
                 Stage::Searching => (self.search(), None),
                 Stage::Waiting { wait, slot, byte } => self.wait(wait, slot, byte),
+                Stage::Held => (self.hold(), None),
             };
             events.put(event);
         }

@@ -16,13 +16,15 @@ pub const BIT: u8 = 32;
 pub const GOOD_ENERGY: i64 = 32_400_000_000_000_000;
 pub const NO_STOP_BIT: u16 = 256;
 pub const CARRIER_LOST: u16 = 257;
+pub const BREAK: u16 = 258;
 
 /// What the specification calls the moment is the slot here: 0 start, 1 to 8 data,
-/// 9 stop.
+/// 9 stop. A break is held from its event until the line is back in mark.
 #[derive(Clone, Copy, Debug, PartialEq, Eq)]
 pub enum Stage {
     Searching,
     Waiting { wait: u8, slot: u8, byte: u8 },
+    Held,
 }
 
 #[derive(Clone, Copy, Debug, PartialEq, Eq)]
@@ -201,6 +203,10 @@ pub(crate) fn decided(run: u8, stage: Stage, space: i64, mark: i64) -> (u8, Stag
         // 5. The wait falls by 1, and at 0 the slot is taken.
         Stage::Waiting { wait, slot, byte } if wait > 1 => (waiting(wait - 1, slot, byte), None),
         Stage::Waiting { slot, byte, .. } => taken(slot, byte, good, space, mark),
+        // A break ends with the new run, as in 4. No event tells of it, nor of a
+        // lost level.
+        Stage::Held if run == FULL_RUN && mark >= space => (Stage::Searching, None),
+        Stage::Held => (Stage::Held, None),
     };
     (run, stage, event)
 }
@@ -239,13 +245,15 @@ pub(crate) fn taken(slot: u8, byte: u8, good: bool, space: i64, mark: i64) -> (S
         }
     } else {
         // Stop.
-        let event = if !good {
-            CARRIER_LOST
+        let (stage, event) = if !good {
+            (Stage::Searching, CARRIER_LOST)
+        } else if space > mark && byte == 0 {
+            (Stage::Held, BREAK)
         } else if space > mark {
-            NO_STOP_BIT
+            (Stage::Searching, NO_STOP_BIT)
         } else {
-            u16::from(byte)
+            (Stage::Searching, u16::from(byte))
         };
-        (Stage::Searching, Some(event))
+        (stage, Some(event))
     }
 }

@@ -59,7 +59,7 @@ fn it_declares_what_the_libraries_have() {
 }
 
 /// A number written as a C program would use it, and what it is.
-const NUMBERS: [(&str, u32); 24] = [
+const NUMBERS: [(&str, u32); 28] = [
     ("MODEM_ACCEPTED", 0),
     ("MODEM_NO_BAND", 1),
     ("MODEM_BAD_STATE", 2),
@@ -83,6 +83,10 @@ const NUMBERS: [(&str, u32); 24] = [
     ("MODEM_EVENT_PLACES(MODEM_MOST_SAMPLES)", 342),
     ("MODEM_NO_STOP", 256),
     ("MODEM_CARRIER_LOST", 257),
+    ("MODEM_BREAK", 258),
+    ("MODEM_SEARCHING", 0),
+    ("MODEM_WAITING", 1),
+    ("MODEM_HELD", 2),
     ("96 / MODEM_IDLE_SAMPLES", 1),
 ];
 

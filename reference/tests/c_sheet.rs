@@ -3,7 +3,7 @@
 use crate::common::c::{compiled, file, Linked};
 use crate::common::forms;
 use crate::common::process::printed;
-use crate::common::recording::{bits, keyed, sending};
+use crate::common::recording::{bits, keyed, no_stop_bit, sending};
 use crate::common::sheets::sheet;
 use crate::common::{BANDS, IDLE_SAMPLES};
 use std::fs::File;
@@ -48,7 +48,7 @@ fn characters_of_a_sheet() {
     }
 }
 
-/// A fault is told apart from the characters before and behind it.
+/// A fault or a break is told apart from the characters before and behind it.
 #[test]
 fn faults_of_a_sheet() {
     for band in BANDS {
@@ -57,12 +57,12 @@ fn faults_of_a_sheet() {
         let lost = [&whole, broken, &[0; 200], &whole].concat();
         let expected = (b"AA".to_vec(), "carrier lost\n".to_string(), 0);
         assert_eq!(run_on(&sheet(band, &lost)), expected, "band {band}");
-        // Behind the leader, the start bit and the data.
-        let mut bits = [bits(b"A"), bits(b"B")].concat();
-        bits[3 + 1 + 8] = 0;
-        let no_stop = keyed(band, &bits);
-        let expected = (b"B".to_vec(), "no stop bit\n".to_string(), 0);
-        assert_eq!(run_on(&sheet(band, &no_stop)), expected, "band {band}");
+        for (first, told) in [(b'A', "no stop bit\n"), (0, "break\n")] {
+            let bits = [no_stop_bit(&[first]), bits(b"B")].concat();
+            let expected = (b"B".to_vec(), told.to_string(), 0);
+            let found = run_on(&sheet(band, &keyed(band, &bits)));
+            assert_eq!(found, expected, "band {band}");
+        }
     }
 }
 

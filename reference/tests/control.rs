@@ -1,15 +1,16 @@
 //! The rule of one sample, over every run, stage and decision: a block of one
 //! sample, whose window is made for the decision.
 
-use crate::common::receiver::WINDOW;
-use crate::common::states::{byte_limit, longest_wait, steps};
-use crate::common::{sines, BANDS};
+use crate::common::receiver::{BREAK, WINDOW};
+use crate::common::states::{byte_limit, longest_wait, window_of, HELD};
+use crate::common::BANDS;
 use reference::library::{receiver_block, Numbers};
 use reference::receiver::{moved_by, State};
 
-/// Every stage in its ranges, with some of the bytes: the search, and waits.
+/// Every stage in its ranges, with some of the bytes: the search, a held break, and
+/// waits.
 fn stages() -> Vec<[u8; 4]> {
-    let mut stages = vec![[0; 4]];
+    let mut stages = vec![[0; 4], HELD];
     for slot in 0..=9 {
         let limit = byte_limit(slot);
         for wait in 1..=longest_wait(slot) {
@@ -26,18 +27,18 @@ fn stages() -> Vec<[u8; 4]> {
 /// 32 samples of a tone, and what the energies of space and mark in them decide:
 /// whether the level is good, and whether space is above mark.
 fn windows(band: u8) -> [([i16; WINDOW], bool, bool); 5] {
-    let [space, mark] = steps(band);
-    let tone = |step, of| std::array::from_fn(|place| sines().s(place * step) / of);
+    let [space, mark] = [0, 1].map(|bit| move |part| window_of(band, bit, part));
     [
-        (tone(space, 1), true, true),
-        (tone(mark, 1), true, false),
-        (tone(space, 4), false, true),
-        (tone(mark, 4), false, false),
+        (space(1), true, true),
+        (mark(1), true, false),
+        (space(4), false, true),
+        (mark(4), false, false),
         ([0; WINDOW], false, false),
     ]
 }
 
-/// Reads the last sample of a window from the state that has the others.
+/// Reads the last sample of a window from the state that has the others, and
+/// returns the event.
 fn check(
     band: u8,
     run: u8,
@@ -45,7 +46,7 @@ fn check(
     window: &[i16; WINDOW],
     good: bool,
     space: bool,
-) -> bool {
+) -> Option<u16> {
     let mut before = [5; WINDOW];
     before[1..].copy_from_slice(&window[..WINDOW - 1]);
     let [stage, wait, slot, byte] = stage;
@@ -75,21 +76,25 @@ fn check(
         "{what}"
     );
     assert_eq!(events, [event.unwrap_or(9_999)], "{what}");
-    event.is_some()
+    event
 }
 
 #[test]
 fn every_run_stage_and_decision() {
-    let (mut count, mut reported) = (0, 0);
+    let (mut count, mut reported, mut breaks) = (0, 0, 0);
     for band in BANDS {
         for (window, good, space) in windows(band) {
             for run in 0..=32 {
                 for stage in stages() {
                     count += 1;
-                    reported += usize::from(check(band, run, stage, &window, good, space));
+                    let event = check(band, run, stage, &window, good, space);
+                    reported += usize::from(event.is_some());
+                    breaks += usize::from(event == Some(BREAK));
                 }
             }
         }
     }
     assert!(count > 300_000 && reported > 5_000, "{count}, {reported}");
+    // One window in either band and one stage, with every run.
+    assert_eq!(breaks, 2 * 33);
 }

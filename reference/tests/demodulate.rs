@@ -1,12 +1,13 @@
 //! The program `demodulate` against the reference, on sheets that are read.
 
 use crate::common::process::printed;
-use crate::common::receiver::{CARRIER_LOST, NO_STOP_BIT};
+use crate::common::receiver::{BREAK, CARRIER_LOST, NO_STOP_BIT};
 use crate::common::recording::{
-    around_0, as_events, disturbed, every_character, sending, surrounded,
+    around_0, as_events, disturbed, every_character, keyed, no_stop_bit, sending, space,
+    surrounded, toned,
 };
 use crate::common::sheets::sheet;
-use crate::common::states::{any_samples, steps};
+use crate::common::states::any_samples;
 use crate::common::{other_band, sines, BANDS, IDLE_SAMPLES};
 use reference::programs::demodulate;
 use reference::random::Random;
@@ -31,6 +32,7 @@ fn listed(events: &[u16]) -> String {
     let line = |(place, &event): (usize, &u16)| match event {
         NO_STOP_BIT => format!("{place} nostop --\n"),
         CARRIER_LOST => format!("{place} lost --\n"),
+        BREAK => format!("{place} break --\n"),
         _ => format!("{place} char {}{}\n", digit(event / 16), digit(event % 16)),
     };
     let lines: String = events.iter().enumerate().map(line).collect();
@@ -39,12 +41,6 @@ fn listed(events: &[u16]) -> String {
 
 fn digit(value: u16) -> char {
     char::from(b"0123456789abcdef"[usize::from(value)])
-}
-
-/// So many samples of the tone of space.
-fn space(band: u8, count: usize) -> Vec<i16> {
-    let [step, _] = steps(band);
-    (0..count).map(|place| sines().s(place * step)).collect()
 }
 
 #[test]
@@ -67,7 +63,7 @@ fn no_events() {
 
 #[test]
 fn a_thousand_samples_of_space() {
-    let expected = "number kind value\n0 nostop --\n1 nostop --\n2 nostop --\n";
+    let expected = "number kind value\n0 break --\n";
     for band in BANDS {
         assert_eq!(check(band, &space(band, 1_000)), expected);
     }
@@ -94,13 +90,24 @@ fn every_character_once() {
     }
 }
 
-/// Space all the time: the first fault is within 350 samples, and every 305
-/// there is one more.
+/// Space but for one data bit in each character: the first fault is within 350
+/// samples, and every 305 there is one more.
 #[test]
 fn places_of_two_digits() {
     for band in BANDS {
-        let found = check(band, &space(band, 350 + 34 * 305));
+        let bit = |place: usize| usize::from((186..218).contains(&(place % 305)));
+        let samples = toned(band, (0..350 + 34 * 305).map(bit));
+        let found = check(band, &samples);
         assert_eq!(found, listed(&[NO_STOP_BIT; 35]), "band {band}");
+    }
+}
+
+/// Space as long as the longest sheet: one event.
+#[test]
+fn a_break_that_is_never_let_go() {
+    for band in BANDS {
+        let found = check(band, &space(band, 11_000));
+        assert_eq!(found, listed(&[BREAK]), "band {band}");
     }
 }
 
@@ -121,15 +128,16 @@ fn faults_between_characters() {
     for band in BANDS {
         let mut samples = Vec::new();
         let mut events = Vec::new();
-        for _ in 0..8 {
+        // As many as one sheet can hold.
+        for _ in 0..7 {
             let message = random.bytes(1);
             samples.extend(sending(band, &message));
             samples.extend(surrounded(&space(band, 40), 100, 100));
-            // A start bit and nine more bits of space, then mark.
-            samples.extend(space(band, 330));
-            samples.extend(surrounded(&[], 100, 0));
+            samples.extend(keyed(band, &no_stop_bit(&[0x20])));
+            // A start bit and nine more bits of space. The next leader ends it.
+            samples.extend(surrounded(&space(band, 330), 100, 100));
             events.extend(as_events(&message));
-            events.extend([CARRIER_LOST, NO_STOP_BIT]);
+            events.extend([CARRIER_LOST, NO_STOP_BIT, BREAK]);
         }
         assert_eq!(check(band, &samples), listed(&events), "band {band}");
     }

@@ -2,6 +2,7 @@
 
 mod common;
 
+mod breaks;
 mod c_calls;
 mod c_header;
 mod c_layout;

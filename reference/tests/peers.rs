@@ -2,7 +2,7 @@
 
 use crate::common::receiver::{assert_events, fresh, guarded, in_numbers};
 use crate::common::recording::{
-    around_0, as_events, disturbed, every_character, sending, surrounded,
+    around_0, as_events, disturbed, every_character, sending, sending_of, surrounded, Item,
 };
 use crate::common::states::{any_block, good_state, hostile_state};
 use crate::common::BANDS;
@@ -37,14 +37,14 @@ fn compare(state: Numbers, samples: &[i16], places: usize) -> (u8, Vec<u16>, Num
     (answer.number, expected.events().to_vec(), answer.state)
 }
 
-#[test]
-fn recordings() {
-    let mut random = Random::new(41);
+/// Reads recordings in blocks of many sizes. Each is made of a band, and comes with
+/// the events that it is to give.
+fn read_recordings(seed: u64, mut make: impl FnMut(&mut Random, u8) -> (Vec<i16>, Vec<u16>)) {
+    let mut random = Random::new(seed);
     for band in BANDS {
         for size in (1..=70).step_by(3).chain([320, 1_000, 16_384]) {
-            let message = every_character(&mut random);
-            let message = &message[..64];
-            let recording = surrounded(&sending(band, message), 100, 200);
+            let (sending, expected) = make(&mut random, band);
+            let recording = surrounded(&sending, 100, 200);
             let recording = disturbed(&recording, |_| around_0(&mut random, 100));
             let mut state = fresh(band);
             let mut events = Vec::new();
@@ -56,9 +56,27 @@ fn recordings() {
                 state = next;
             }
             let what = || format!("band {band}, blocks of {size}");
-            assert_events(&events, &as_events(message), what);
+            assert_events(&events, &expected, what);
         }
     }
+}
+
+#[test]
+fn recordings() {
+    read_recordings(41, |random, band| {
+        let message = every_character(random);
+        let message = &message[..64];
+        (sending(band, message), as_events(message))
+    });
+}
+
+#[test]
+fn breaks() {
+    read_recordings(47, |random, band| {
+        let items: Vec<Item> = (0..40).map(|_| Item::any(random)).collect();
+        let events = items.iter().map(|item| item.event()).collect();
+        (sending_of(band, &items), events)
+    });
 }
 
 /// Any states, blocks and places, refused ones among them.
@@ -66,7 +84,7 @@ fn recordings() {
 fn random_calls() {
     let mut random = Random::new(42);
     let mut seen = [0; 6];
-    for _ in 0..20_000 {
+    for _ in 0..25_000 {
         let state = if random.below(8) == 0 {
             hostile_state(&mut random)
         } else {

@@ -2,9 +2,9 @@
 //! by 1, and the least energy of a good level. Other tests hardly ever meet
 //! one.
 
-use crate::common::receiver::{compare_accepted, CARRIER_LOST, NO_STOP_BIT, WINDOW};
+use crate::common::receiver::{compare_accepted, BREAK, CARRIER_LOST, NO_STOP_BIT, WINDOW};
 use crate::common::sines;
-use crate::common::states::{steps, with_stage};
+use crate::common::states::{steps, with_stage, HELD};
 use reference::library::Numbers;
 
 /// A window with I and Q of space, then of mark.
@@ -281,15 +281,31 @@ fn stop() {
     for case in &CASES {
         let (space, mark) = case.energies();
         for byte in 0..=255 {
-            let event = if !case.good() {
-                CARRIER_LOST
+            let (stage, event) = if !case.good() {
+                ([0; 4], CARRIER_LOST)
+            } else if space > mark && byte == 0 {
+                (HELD, BREAK)
             } else if space > mark {
-                NO_STOP_BIT
+                ([0; 4], NO_STOP_BIT)
             } else {
-                u16::from(byte)
+                ([0; 4], u16::from(byte))
             };
             let found = case.read(31, [1, 1, 9, byte]);
-            assert_eq!(found, ([0; 4], vec![event]));
+            assert_eq!(found, (stage, vec![event]));
+        }
+    }
+}
+
+/// Only a full run and mark at least space end a break. A tie ends it.
+#[test]
+fn holding() {
+    for case in &CASES {
+        let (space, mark) = case.energies();
+        for run in 0..=32 {
+            let (stage, events) = case.read(run, HELD);
+            let ended = case.good() && run >= 31 && mark >= space;
+            let expected = if ended { [0; 4] } else { HELD };
+            assert_eq!((stage, events), (expected, vec![]), "run {run}");
         }
     }
 }

@@ -1,10 +1,9 @@
 //! The bench examples of blocks and events in the specification, with its numbers,
 //! and some at the limits of the table of refusals.
 
-use crate::common::receiver::{compare, fresh, read, read_on, CARRIER_LOST, FRESH, NO_STOP_BIT};
-use crate::common::recording::sending;
-use crate::common::states::steps;
-use crate::common::{sines, BANDS, IDLE_SAMPLES};
+use crate::common::receiver::{compare, fresh, read, read_on, BREAK, CARRIER_LOST, FRESH};
+use crate::common::recording::{sending, space};
+use crate::common::{BANDS, IDLE_SAMPLES};
 use reference::library::{message_send, Numbers};
 
 /// The example in one block, and cut in several ways.
@@ -20,13 +19,12 @@ fn a_thousand_zeros_have_no_event() {
 }
 
 #[test]
-fn a_thousand_samples_of_space_are_three_faults() {
+fn a_thousand_samples_of_space_are_one_break() {
     for band in BANDS {
-        let [space, _] = steps(band);
-        let samples: Vec<i16> = (0..1_000).map(|place| sines().s(place * space)).collect();
+        let samples = space(band, 1_000);
         for size in SIZES {
             let events = read(band, &samples, size);
-            assert_eq!(events, [NO_STOP_BIT; 3], "band {band}, {size}");
+            assert_eq!(events, [BREAK], "band {band}, {size}");
         }
     }
 }

@@ -95,8 +95,8 @@ fn every_slot_and_byte() {
     }
 }
 
-/// 0 is searching whatever stands behind it, 1 is waiting, in range or not, and
-/// any other is out of range.
+/// 0 is searching and 2 a held break, whatever stands behind it, 1 is waiting, in
+/// range or not, and any other is out of range.
 #[test]
 fn every_number_of_a_stage() {
     for stage in 0..=255 {
@@ -112,8 +112,23 @@ fn every_number_of_a_stage() {
         ] {
             let [wait, slot, byte] = rest;
             let state = with_stage([stage, wait, slot, byte]);
-            let expected = stage == 0 || stage == 1 && good;
+            let expected = stage == 0 || stage == 1 && good || stage == 2;
             assert_eq!(taken(state), expected, "{:?}", state.stage_numbers());
+        }
+    }
+}
+
+/// Behind 0 and behind 2 every number is taken, in every place, and none is kept.
+#[test]
+fn every_number_behind_a_search_and_a_break() {
+    for stage in [0, 2] {
+        for n in 0..=255 {
+            for [wait, slot, byte] in [[n, 0, 0], [0, n, 0], [0, 0, n], [n, n, n]] {
+                let handed = with_stage([stage, wait, slot, byte]);
+                let answer = compare(handed, &[], 1).answer;
+                let one_form = with_stage([stage, 0, 0, 0]);
+                assert_eq!((answer.number, answer.state), (0, one_form), "{handed:?}");
+            }
         }
     }
 }

@@ -1,6 +1,6 @@
 //! Noise, and bursts of tone in it, where faults are frequent.
 
-use crate::common::met::{assert_frequent, kinds};
+use crate::common::met::{assert_frequent, kinds, Kinds};
 use crate::common::receiver::{fresh, read_on};
 use crate::common::recording::{around_0, noise, random_blocks, sending};
 use crate::common::states::{any_samples, steps};
@@ -9,7 +9,7 @@ use reference::random::Random;
 
 /// The kinds of the events that either side tells of the samples, in blocks of
 /// random sizes up to `longest`.
-fn read(random: &mut Random, band: u8, samples: &[i16], longest: usize) -> [usize; 3] {
+fn read(random: &mut Random, band: u8, samples: &[i16], longest: usize) -> Kinds {
     let blocks = random_blocks(random, samples, longest);
     kinds(&read_on(fresh(band), blocks).0)
 }
@@ -21,7 +21,7 @@ fn noise_of_full_range() {
     for band in BANDS {
         let samples = noise(&mut random, 8_191, 400_000);
         let kinds = read(&mut random, band, &samples, 500);
-        assert_frequent(kinds, [0, 0, 300]);
+        assert_frequent(kinds, [0, 0, 300, 0]);
     }
 }
 
@@ -29,9 +29,9 @@ fn noise_of_full_range() {
 fn bursts_of_tone_in_noise() {
     let mut random = Random::new(19);
     for band in BANDS {
-        let samples = any_samples(&mut random, band, 400_000);
+        let samples = any_samples(&mut random, band, 1_600_000);
         let kinds = read(&mut random, band, &samples, 2_000);
-        assert_frequent(kinds, [50, 50, 300]);
+        assert_frequent(kinds, [50, 50, 300, 50]);
     }
 }
 
@@ -40,7 +40,7 @@ fn bursts_of_tone_in_noise() {
 fn sendings_in_loud_noise() {
     let mut random = Random::new(20);
     for band in BANDS {
-        let mut all = [0; 3];
+        let mut all = [0; 4];
         for most in [500, 1_000, 2_000, 2_191, 4_000, 8_000] {
             let message = random.bytes(150);
             let mut samples = sending(band, &message);
@@ -53,7 +53,7 @@ fn sendings_in_loud_noise() {
                 *all += kind;
             }
         }
-        assert_frequent(all, [800, 5, 0]);
+        assert_frequent(all, [800, 5, 0, 0]);
     }
 }
 
@@ -63,7 +63,7 @@ fn sendings_in_loud_noise() {
 fn sendings_near_the_least_good_level() {
     let mut random = Random::new(21);
     for band in BANDS {
-        let mut all = [0; 3];
+        let mut all = [0; 4];
         for loudness in (1_700..=2_000).step_by(20) {
             let message = random.bytes(40);
             let samples: Vec<i16> = sending(band, &message)
@@ -76,7 +76,7 @@ fn sendings_near_the_least_good_level() {
                 *all += kind;
             }
         }
-        assert_frequent(all, [10, 10, 50]);
+        assert_frequent(all, [10, 10, 50, 0]);
     }
 }
 
@@ -116,13 +116,13 @@ fn sendings_of_another_band() {
     }
 }
 
-/// Samples that make the sums as large as they can be. Space without end lacks
-/// a stop bit, and mark is no event.
+/// Samples that make the sums as large as they can be. Space without end is a
+/// break, and mark is no event.
 #[test]
 fn the_largest_sums() {
     let mut random = Random::new(23);
     for band in BANDS {
-        for (step, expected) in steps(band).into_iter().zip([[0, 1, 0], [0, 0, 0]]) {
+        for (step, expected) in steps(band).into_iter().zip([[0, 0, 0, 1], [0; 4]]) {
             for phase in (0..1_920).step_by(15) {
                 let square = |place: usize| {
                     let sample = sines().s(phase + place * step);
@@ -135,7 +135,7 @@ fn the_largest_sums() {
         }
         for sample in [8_191, -8_191] {
             let kinds = read(&mut random, band, &[sample; 1_000], 100);
-            assert_eq!(kinds, [0; 3], "always {sample}");
+            assert_eq!(kinds, [0; 4], "always {sample}");
         }
     }
 }

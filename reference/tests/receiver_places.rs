@@ -4,14 +4,17 @@
 
 use crate::common::met::{assert_frequent, Met};
 use crate::common::receiver::{
-    compare_accepted, fresh, read_on, CARRIER_LOST, FRESH, NO_STOP_BIT, WINDOW,
+    compare_accepted, fresh, read_on, BREAK, CARRIER_LOST, NO_STOP_BIT, WINDOW,
 };
-use crate::common::recording::{around_0, bits, disturbed, keyed, sending, surrounded};
-use crate::common::states::{any_pieces, byte_limit, longest_wait, with_stage};
+use crate::common::recording::{
+    around_0, bits, disturbed, keyed, no_stop_bit, sending, space, surrounded,
+};
+use crate::common::states::{any_pieces, byte_limit, longest_wait, with_stage, HELD};
 use crate::common::{BANDS, IDLE_SAMPLES};
 use reference::disturbance::MOST;
 use reference::library::Numbers;
 use reference::random::Random;
+use std::ops::RangeInclusive;
 
 /// The longest block that is read from every run and stage: all windows that
 /// begin before it, and more than 32 behind them.
@@ -23,18 +26,21 @@ const FOUND: [u8; 4] = [1, 16, 0, 0];
 
 /// Two characters, and each of the faults with a character behind it, with the
 /// events to be told.
-fn recordings(band: u8) -> [(Vec<i16>, [u16; 2]); 4] {
+fn recordings(band: u8) -> [(Vec<i16>, [u16; 2]); 6] {
     let second = sending(band, &[0x4d]);
+    let without = |first| keyed(band, &[no_stop_bit(&[first]), bits(&[0x4d])].concat());
     let lost = |bits: usize, samples: usize| {
         let first = &sending(band, &[0xb2])[..IDLE_SAMPLES + 32 * bits + samples];
         [&surrounded(first, 0, 64), &second[..]].concat()
     };
-    // Behind the leader, the start bit and the data.
-    let mut no_stop_bit = [bits(&[0xb2]), bits(&[0x4d])].concat();
-    no_stop_bit[3 + 1 + 8] = 0;
+    let held = surrounded(&space(band, 400), 0, 64);
+    let lost_and_held = [&held, &space(band, 100), &second[..]].concat();
     [
         (sending(band, &[0xb2, 0x4d]), [0xb2, 0x4d]),
-        (keyed(band, &no_stop_bit), [NO_STOP_BIT, 0x4d]),
+        (without(0xb2), [NO_STOP_BIT, 0x4d]),
+        (without(0), [BREAK, 0x4d]),
+        // The level is lost while the break is held.
+        (lost_and_held, [BREAK, 0x4d]),
         // At a data bit, and at the stop bit.
         (lost(5, 7), [CARRIER_LOST, 0x4d]),
         (lost(9, 4), [CARRIER_LOST, 0x4d]),
@@ -72,6 +78,7 @@ fn every_cut_of_characters_and_faults() {
             cut_everywhere(&mut met, band, &samples, expected);
         }
         met.assert_searching_runs(4);
+        met.assert_held_runs(1);
         met.assert_waits(4);
     }
 }
@@ -99,17 +106,30 @@ fn read_from(
     }
 }
 
-#[test]
-fn every_run_of_a_search() {
-    let mut random = Random::new(55);
+/// What is met from every run of a stage that does not wait.
+fn from_every_run(seed: u64, stage: [u8; 4]) -> Met {
+    let mut random = Random::new(seed);
     let mut met = Met::new();
     for run in 0..=32 {
         for _ in 0..40 {
-            read_from(&mut met, &mut random, run, SEARCHING, 0..=LONGEST);
+            read_from(&mut met, &mut random, run, stage, 0..=LONGEST);
         }
     }
+    met
+}
+
+#[test]
+fn every_run_of_a_search() {
+    let met = from_every_run(55, SEARCHING);
     met.assert_searching_runs(200);
     met.assert_waiting_runs(1);
+}
+
+#[test]
+fn every_run_of_a_held_break() {
+    let met = from_every_run(59, HELD);
+    met.assert_held_runs(200);
+    met.assert_searching_runs(1);
 }
 
 /// Every third length for each slot, so that each run, wait and length are met
@@ -129,7 +149,7 @@ fn every_run_of_every_wait() {
             }
         }
     }
-    assert_frequent(met.kinds, [1_000, 1_000, 1_000]);
+    assert_frequent(met.kinds, [1_000, 1_000, 1_000, 1_000]);
     met.assert_searching_runs(100);
     met.assert_waiting_runs(100);
     met.assert_waits(10);
@@ -148,55 +168,81 @@ fn gap(first: &[i16], before: usize, silent: usize, then: &[i16]) -> ([i16; WIND
     (window.try_into().expect("a whole window"), samples)
 }
 
-/// The ends behind the gap at which the search has a run of 31, and those at which
-/// it has found a start.
-fn ends_in_space(
+/// The end behind a gap at which a stage has a run of 31, from any run before, and
+/// those at which it is the other stage with a run of 32.
+fn ends_behind(
     met: &mut Met,
     random: &mut Random,
-    band: u8,
-    before: usize,
-    silent: usize,
-) -> [Vec<usize>; 2] {
-    let [space, mark] = tones(band);
-    let (window, samples) = gap(&mark, before, silent, &space);
-    let mut ends = [vec![], vec![]];
+    from: Numbers,
+    (samples, behind): (&[i16], usize),
+    other: [u8; 4],
+) -> (usize, Vec<usize>) {
+    let (mut almost, mut ends) = (vec![], vec![]);
     for end in 0..=samples.len() {
-        let state = Numbers {
-            band,
-            window,
-            run: random.below(33) as u8,
-            ..FRESH
-        };
-        let next = met.compare(state, &samples[..end]).answer.state;
-        if end > before + silent {
+        let run = random.below(33) as u8;
+        let reading = met.compare(Numbers { run, ..from }, &samples[..end]);
+        let next = reading.answer.state;
+        if end > behind {
             match (next.stage_numbers(), next.run) {
-                (SEARCHING, 31) => ends[0].push(end),
-                (FOUND, 32) => ends[1].push(end),
-                (stage, run) => assert!(stage != FOUND && run != 31, "{next:?}"),
+                (stage, 31) if stage == from.stage_numbers() => almost.push(end),
+                (stage, 32) if stage == other => ends.push(end),
+                (stage, run) => assert!(stage != other && run != 31, "{next:?}"),
             }
         }
     }
-    ends
+    assert_eq!(almost.len(), 1, "{almost:?}");
+    (almost[0], ends)
 }
 
-/// The run is counted back to the gap, wherever it lies in the block, and a start
-/// is found in space behind it with run 32 and not with run 31.
-#[test]
-fn a_gap_at_every_place_of_a_search() {
-    let mut random = Random::new(57);
-    for band in BANDS {
+/// Gaps at every place between the tones of two bits, from one stage to another, in
+/// each band. The run is counted back to the gap, wherever it lies in the block. The
+/// ends found behind it must be those expected of the one with run 31 and the last.
+fn gaps(
+    seed: u64,
+    [first, then]: [usize; 2],
+    [stage, other]: [[u8; 4]; 2],
+    expected: fn(usize, usize) -> RangeInclusive<usize>,
+) -> [Met; BANDS.len()] {
+    let mut random = Random::new(seed);
+    BANDS.map(|band| {
         let mut met = Met::new();
+        let tones = tones(band);
         for before in 0..=LONGEST {
             // The shortest gap that breaks the run for certain, and longer ones, so
             // that a search may meet any part of one first.
             for silent in [23, 24 + before % 40] {
-                let [almost, found] = ends_in_space(&mut met, &mut random, band, before, silent);
-                let what = format!("band {band}, {before} before {silent}");
-                assert_eq!((almost.len(), found.len()), (1, 1), "{what}");
-                assert_eq!(found[0], almost[0] + 1, "{what}");
+                let (window, samples) = gap(&tones[first], before, silent, &tones[then]);
+                let from = Numbers {
+                    band,
+                    window,
+                    ..with_stage(stage)
+                };
+                let cut = (&samples[..], before + silent);
+                let (almost, ends) = ends_behind(&mut met, &mut random, from, cut, other);
+                let expected: Vec<usize> = expected(almost, samples.len()).collect();
+                assert_eq!(ends, expected, "band {band}, {before} before {silent}");
             }
         }
+        met
+    })
+}
+
+/// A start is found in space with run 32 and not with run 31.
+#[test]
+fn a_gap_at_every_place_of_a_search() {
+    let found = |almost, _| almost + 1..=almost + 1;
+    for met in gaps(57, [1, 0], [SEARCHING, FOUND], found) {
         met.assert_searching_runs(100);
+    }
+}
+
+/// A break ends in mark with run 32 and not with run 31, and the search that follows
+/// finds nothing there.
+#[test]
+fn a_gap_at_every_place_of_a_held_break() {
+    let ended = |almost, last| almost + 1..=last;
+    for met in gaps(60, [0, 1], [HELD, SEARCHING], ended) {
+        met.assert_held_runs(100);
     }
 }
 
@@ -213,9 +259,9 @@ fn a_gap_at_every_place_of_a_wait() {
                 let [first, then] = [0; 2].map(|_| &tones[random.below(2)]);
                 let (window, samples) = gap(first, before, 22 + random.below(20), then);
                 let run = random.below(33) as u8;
-                for slot in [0, 9] {
+                for (slot, byte) in [(0, 0), (9, 0), (9, 0x4d)] {
                     if wait <= longest_wait(slot) {
-                        let stage = [1, wait, slot, 0];
+                        let stage = [1, wait, slot, byte];
                         let state = Numbers {
                             band,
                             window,
@@ -229,7 +275,7 @@ fn a_gap_at_every_place_of_a_wait() {
                 }
             }
         }
-        assert_frequent(met.kinds, [500, 500, 500]);
+        assert_frequent(met.kinds, [500; 4]);
         met.assert_searching_runs(50);
         met.assert_waiting_runs(50);
     }

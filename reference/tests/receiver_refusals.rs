@@ -140,15 +140,15 @@ fn refused_blocks() -> [(Vec<i16>, usize, u8); 3] {
     ]
 }
 
-/// A search with other numbers than 0 behind it is handed back by a refusal as it
-/// is, and brought into its one form by an accepted call.
-#[test]
-fn other_forms_of_a_search() {
+/// A stage with other numbers than 0 behind it, which it does not have, is handed
+/// back by a refusal as it is, and brought into its one form by an accepted call.
+fn other_forms(stage: u8) {
     for rest in [[1, 2, 3], [255, 255, 255], [0, 0, 1], [0, 9, 0], [16, 0, 0]] {
         let [wait, slot, byte] = rest;
-        let state = with_stage([0, wait, slot, byte]);
+        let state = with_stage([stage, wait, slot, byte]);
+        let one_form = with_stage([stage, 0, 0, 0]);
         let empty = compare(state, &[], 1).answer;
-        assert_eq!((empty.number, empty.state), (0, FRESH), "{rest:?}");
+        assert_eq!((empty.number, empty.state), (0, one_form), "{rest:?}");
         for (samples, places, number) in refused_blocks() {
             let refused = compare(state, &samples, places).answer;
             assert_eq!((refused.number, refused.state), (number, state));
@@ -159,11 +159,21 @@ fn other_forms_of_a_search() {
     }
 }
 
-/// There are the stages 0 and 1 alone. Any other is refused with 2, before all
+#[test]
+fn other_forms_of_a_search() {
+    other_forms(0);
+}
+
+#[test]
+fn other_forms_of_a_held_break() {
+    other_forms(2);
+}
+
+/// There are the stages 0, 1 and 2 alone. Any other is refused with 2, before all
 /// else, and handed back as it is, though as a wait it would be in range.
 #[test]
 fn other_numbers_of_a_stage() {
-    for stage in 2..=255 {
+    for stage in 3..=255 {
         for rest in [[0, 0, 0], [16, 0, 0], [32, 9, 255], [1, 2, 1]] {
             let [wait, slot, byte] = rest;
             let state = with_stage([stage, wait, slot, byte]);

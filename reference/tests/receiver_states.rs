@@ -1,16 +1,16 @@
 //! Blocks read on from any state in range.
 
-use crate::common::receiver::{compare_accepted, CARRIER_LOST, EVENTS, FRESH, NO_STOP_BIT, WINDOW};
-use crate::common::states::{any_samples, byte_limit, good_state, longest_wait, steps};
-use crate::common::{sines, BANDS};
+use crate::common::receiver::{
+    compare_accepted, BREAK, CARRIER_LOST, EVENTS, FRESH, NO_STOP_BIT, WINDOW,
+};
+use crate::common::states::{any_samples, byte_limit, good_state, longest_wait, window_of};
+use crate::common::BANDS;
 use reference::library::Numbers;
 use reference::random::Random;
 
 /// Windows of silence, of space and of mark.
 fn windows(band: u8) -> [[i16; WINDOW]; 3] {
-    let [space, mark] = steps(band);
-    let tone = |step: usize| std::array::from_fn(|j| sines().s(j * step));
-    [[0; WINDOW], tone(space), tone(mark)]
+    [[0; WINDOW], window_of(band, 0, 1), window_of(band, 1, 1)]
 }
 
 /// Every stage that waits, over windows and blocks of either tone or none.
@@ -48,12 +48,12 @@ fn every_slot_and_wait() {
     }
     assert!(seen[usize::from(NO_STOP_BIT)] >= 50);
     assert!(seen[usize::from(CARRIER_LOST)] >= 500);
+    assert!(seen[usize::from(BREAK)] >= 50);
     assert!(seen[..256].iter().filter(|&&count| count > 0).count() >= 30);
 }
 
-/// Every run when searching; the next is one more, at most 32, or 0.
-#[test]
-fn every_run() {
+/// Every run of a stage that does not wait; the next is one more, at most 32, or 0.
+fn every_run(stage: u8) {
     for band in BANDS {
         for window in windows(band) {
             for run in 0..=32 {
@@ -61,6 +61,7 @@ fn every_run() {
                     band,
                     window,
                     run,
+                    stage,
                     ..FRESH
                 };
                 for size in 0..=40 {
@@ -79,13 +80,23 @@ fn every_run() {
     }
 }
 
+#[test]
+fn every_run_of_a_search() {
+    every_run(0);
+}
+
+#[test]
+fn every_run_of_a_held_break() {
+    every_run(2);
+}
+
 /// The state after a block is the state to read the next one from: a block cut
 /// in two gives the same as the whole.
 #[test]
 fn random_states() {
     let mut random = Random::new(39);
     let mut seen = [0; EVENTS];
-    for _ in 0..16_000 {
+    for _ in 0..20_000 {
         let state = good_state(&mut random);
         let size = random.below(300);
         let samples = any_samples(&mut random, state.band, size);
@@ -102,6 +113,7 @@ fn random_states() {
     }
     assert!(seen[usize::from(NO_STOP_BIT)] >= 300);
     assert!(seen[usize::from(CARRIER_LOST)] >= 300);
+    assert!(seen[usize::from(BREAK)] >= 10);
     assert!(seen[..256].iter().filter(|&&count| count > 0).count() >= 200);
 }
 

@@ -12,16 +12,17 @@ use Rattle.integers.proofs.Tests.{cond-case, cond-split, cond-both}
 use Rattle.control.specs.declared.Decision.{Decision}
 use Rattle.control.specs.declared.Next.{Next}
 use Rattle.control.specs.declared.Stage.{Stage}
-use Rattle.control.specs.declared.Stage.the-variants.{Searching, Waiting}
+use Rattle.control.specs.declared.Stage.the-variants.{Searching, Waiting, Held}
 use Rattle.control.specs.declared.Control.{Control}
 use Rattle.control.specs.Ranges.{isStage}
-use Rattle.control.specs.Rules.{numbers, runAfter, taken, nextOf, movedBy, controlAfter, reported}
+use Rattle.control.specs.Rules.{numbers, runAfter, endsBreak, taken, nextOf, movedBy, controlAfter, reported}
 use Rattle.control.proofs.Ranges.{wait-low, stage-wait}
 
 -- 49 less the samples that are still to come before there can be an event
 abbrev pub elapsed : Stage → ℕ
 elapsed Searching = 0
 elapsed (Waiting wait slot byte) = cond (eqb slot 0) (17 - wait) (49 - wait)
+elapsed Held = 0
 
 -- from a stage at which p has elapsed
 abbrev Slow : ℕ → Next → Type 0
@@ -34,7 +35,7 @@ taken-slow wait slot byte d h =
     (λ e. cond-case (Slow (17 - wait)) (d .good && d .space) _ _ (omega arith) (omega arith))
     (λ e. cond-case (Slow (49 - wait)) (leb slot 8) _ _
     (cond-case (Slow (49 - wait)) (not (d .good)) _ _ (omega arith) (rw (ne-eqb (slot + 1) 0 (λ e. omega arith)) (omega arith)))
-    (cond-case (Slow (49 - wait)) (not (d .good)) _ _ (omega arith) (cond-case (Slow (49 - wait)) (d .space) _ _ (omega arith) (omega arith))))
+    (cond-case (Slow (49 - wait)) (not (d .good)) _ _ (omega arith) (cond-case (Slow (49 - wait)) (d .space) _ _ (cond-case (Slow (49 - wait)) (eqb byte 0) _ _ (omega arith) (omega arith)) (omega arith))))
 
 next-slow : (stage : Stage) (run : ℕ) (d : Decision) → Slow (elapsed stage) (nextOf stage run d)
 unfolding nextOf
@@ -46,6 +47,7 @@ next-slow (Waiting wait slot byte) run d =
     let nz : wait - 1 ≡ 0 → ⊥ = eqb-false (wait - 1) 0 e in
     let h : 1 < wait = omega (arith, nz) in
     cond-both (λ (p q : ℕ). 49 * 0 + p ≤ q + 1) (eqb slot 0) (λ z. omega arith) (λ z. omega arith))
+next-slow Held run d = cond-case (λ (s : Stage). 49 * 0 + elapsed s ≤ 1) (endsBreak run d) _ _ (omega arith) (omega arith)
 
 pub control-slow : (c : Control) (d : Decision) → 49 * length (reported c d) + elapsed (controlAfter c d .stage) ≤ elapsed (c .stage) + 1
 unfolding controlAfter reported movedBy
@@ -57,3 +59,4 @@ elapsed-most Searching h = omega arith
 elapsed-most (Waiting wait slot byte) h =
     let l : 1 ≤ wait = wait-low wait slot (stage-wait wait slot byte h) in
     cond-case (λ (n : ℕ). n ≤ 48) (eqb slot 0) (17 - wait) (49 - wait) (omega arith) (omega arith)
+elapsed-most Held h = omega arith

@@ -14,10 +14,10 @@ use Rattle.calls.specs.Runs.{after}
 use Rattle.control.specs.declared.Decision.{Decision}
 use Rattle.control.specs.declared.Next.{Next}
 use Rattle.control.specs.declared.Stage.{Stage}
-use Rattle.control.specs.declared.Stage.the-variants.{Searching, Waiting}
+use Rattle.control.specs.declared.Stage.the-variants.{Searching, Waiting, Held}
 use Rattle.control.specs.declared.Control.{Control}
 use Rattle.control.specs.Ranges.{isWait, isSlot, isStage, isControl}
-use Rattle.control.specs.Rules.{runAfter, gathered, taken, nextOf, movedBy, controlAfter, follow}
+use Rattle.control.specs.Rules.{runAfter, endsBreak, gathered, taken, nextOf, movedBy, controlAfter, follow}
 
 -- ---- waits
 
@@ -40,6 +40,10 @@ wait-32 : (slot : ℕ) → isWait 32 (slot + 1) ≡ true
 wait-32 slot = rw (ne-eqb (slot + 1) 0 (λ e. omega arith)) refl
 
 -- ---- slots
+
+pub slot-most : (slot byte : ℕ) → isSlot slot byte ≡ true → slot ≤ 9
+unfolding isSlot
+slot-most slot byte h = leb-true slot 9 (and-elim-left (leb slot 9) _ h)
 
 -- the byte is below the weight of the next data bit
 pub slot-below : (slot byte : ℕ) → (slot ≡ 0 → ⊥) → isSlot slot byte ≡ true → byte < 2 ^ (slot - 1)
@@ -93,7 +97,7 @@ taken-kept slot byte d h =
     cond-split Kept (leb slot 8) _ _
     (λ l. cond-case Kept (not (d .good)) _ _ refl
     (and-intro (wait-32 slot) (slot-next slot byte (d .space) nz (leb-true slot 8 l) (slot-below slot byte nz h))))
-    (λ l. cond-case Kept (not (d .good)) _ _ refl (cond-case Kept (d .space) _ _ refl refl)))
+    (λ l. cond-case Kept (not (d .good)) _ _ refl (cond-case Kept (d .space) _ _ (cond-case Kept (eqb byte 0) _ _ refl refl) refl)))
 
 next-kept : (stage : Stage) (run : ℕ) (d : Decision) → isStage stage ≡ true → Kept (nextOf stage run d)
 unfolding nextOf isStage isSlot
@@ -104,6 +108,7 @@ next-kept (Waiting wait slot byte) run d h =
     (λ e.
     let nz : wait - 1 ≡ 0 → ⊥ = eqb-false (wait - 1) 0 e in
     and-intro (wait-less wait slot (omega (arith, nz)) (stage-wait wait slot byte h)) (stage-slot wait slot byte h))
+next-kept Held run d h = cond-case (λ (s : Stage). isStage s ≡ true) (endsBreak run d) _ _ refl refl
 
 -- ---- run and stage
 

@@ -1,7 +1,7 @@
 -- The cases of the rules, each an equation under the tests that lead to it.
 -- Assumes nothing.
 use mathlib.Core.Path.{_≡_, refl, _∙_}
-use mathlib.Core.Bool.{Bool, true, false, cond, and-false, Bool·beq}
+use mathlib.Core.Bool.{Bool, true, false, cond, not, and-false, Bool·beq}
 use Prim.Native.Nat.{ℕ, _+_, _-_, _<_, _≤_}
 use native.Mathlib.Omega.{arith}
 use borrow.Author.Tests.{le-leb, lt-leb, eq-eqb, ne-eqb}
@@ -12,10 +12,10 @@ use Rattle.control.specs.declared.Asked.{Asked}
 use Rattle.control.specs.declared.Asked.the-variants.{Tone, Slot}
 use Rattle.control.specs.declared.Next.{Next}
 use Rattle.control.specs.declared.Stage.{Stage}
-use Rattle.control.specs.declared.Stage.the-variants.{Searching, Waiting}
+use Rattle.control.specs.declared.Stage.the-variants.{Searching, Waiting, Held}
 use Rattle.control.specs.declared.Control.{Control}
 use Rattle.control.specs.Ranges.{isSlot}
-use Rattle.control.specs.Rules.{carrierLost, noStop, numbers, quiet, report, runAfter, gathered, taken, nextOf, movedBy, controlAfter, reported}
+use Rattle.control.specs.Rules.{carrierLost, noStop, numbers, quiet, report, holdBreak, endsBreak, runAfter, gathered, taken, nextOf, movedBy, controlAfter, reported}
 use Rattle.control.specs.AsCoded.{isFound, askedBy, waitOver}
 
 -- ---- the run
@@ -48,9 +48,13 @@ module _ (byte : ℕ) (d : Decision) where
     unfolding taken
     data-bit g h = simp (ne-eqb slot 0 nz, g, le-leb slot 8 h)
 
-    pub stop-space : d .good ≡ true → 8 < slot → d .space ≡ true → taken slot byte d ≡ report noStop
+    pub stop-space : d .good ≡ true → 8 < slot → d .space ≡ true → (byte ≡ 0 → ⊥) → taken slot byte d ≡ report noStop
     unfolding taken
-    stop-space g h s = simp (ne-eqb slot 0 nz, g, lt-leb slot 8 h, s)
+    stop-space g h s b = simp (ne-eqb slot 0 nz, g, lt-leb slot 8 h, s, ne-eqb byte 0 b)
+
+    pub stop-break : d .good ≡ true → 8 < slot → d .space ≡ true → byte ≡ 0 → taken slot byte d ≡ holdBreak
+    unfolding taken
+    stop-break g h s b = simp (ne-eqb slot 0 nz, g, lt-leb slot 8 h, s, eq-eqb byte 0 b)
 
     pub stop-mark : d .good ≡ true → 8 < slot → d .space ≡ false → taken slot byte d ≡ report byte
     unfolding taken
@@ -61,6 +65,10 @@ module _ (byte : ℕ) (d : Decision) where
 same-true : (b : Bool) → Bool·beq b true ≡ b
 same-true true = refl
 same-true false = refl
+
+same-false : (b : Bool) → Bool·beq b false ≡ not b
+same-false true = refl
+same-false false = refl
 
 module _ (run : ℕ) (d : Decision) where
   pub search-found : run ≡ 32 → d .space ≡ true → nextOf Searching run d ≡ quiet (Waiting 16 0 0)
@@ -74,6 +82,14 @@ module _ (run : ℕ) (d : Decision) where
   pub search-mark : d .space ≡ false → nextOf Searching run d ≡ quiet Searching
   unfolding nextOf
   search-mark s = simp (s, and-false (eqb run 32))
+
+  pub held-on : endsBreak run d ≡ false → nextOf Held run d ≡ quiet Held
+  unfolding nextOf
+  held-on e = rw e
+
+  pub held-ends : endsBreak run d ≡ true → nextOf Held run d ≡ quiet Searching
+  unfolding nextOf
+  held-ends e = rw e
 
   module _ (wait slot byte : ℕ) where
     pub wait-more : 1 < wait → nextOf (Waiting wait slot byte) run d ≡ quiet (Waiting (wait - 1) slot byte)
@@ -101,6 +117,7 @@ asks-by : (stage : Stage) → Asks stage (askedBy stage)
 unfolding nextOf
 asks-by Searching = record { step = λ run d. rw (same-true (d .space)) }
 asks-by (Waiting wait slot byte) = refl
+asks-by Held = record { step = λ run d. rw (same-false (d .space)) }
 
 pub asks : (stage : Stage) (a : Asked) → a ≡ askedBy stage → Asks stage a
 asks stage a e = rw e (asks-by stage)

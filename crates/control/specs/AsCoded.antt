@@ -9,7 +9,7 @@ use lib.Dec.{eqb}
 use Rattle.calls.specs.Runs.{after}
 use Rattle.control.specs.declared.Decision.{Decision}
 use Rattle.control.specs.declared.Stage.{Stage}
-use Rattle.control.specs.declared.Stage.the-variants.{Searching, Waiting}
+use Rattle.control.specs.declared.Stage.the-variants.{Searching, Waiting, Held}
 use Rattle.control.specs.declared.Asked.{Asked}
 use Rattle.control.specs.declared.Asked.the-variants.{Tone, Slot}
 use Rattle.control.specs.declared.Next.{Next}
@@ -26,6 +26,7 @@ isFound space run d = eqb run 32 && Bool·beq (d .space) space
 abbrev pub askedBy : Stage → Asked
 askedBy Searching = Tone true (Waiting 16 0 0)
 askedBy (Waiting wait slot byte) = Slot wait slot byte
+askedBy Held = Tone false Searching
 
 -- what the wait for a slot ends in; a slot out of its ranges, of which the specification says nothing, is given up
 abbrev pub waitOver : ℕ → ℕ → Decision → Next

@@ -1,4 +1,5 @@
--- What a decision does to run and stage, and its event: the specification, "Reader, step by step", rules 3 to 5, as decision 17 reads them.
+-- What a decision does to run and stage, and its event: the specification, "Reader, step by step", rules 3 to 6, as decision 17 reads
+-- them, and "A held break key".
 -- Assumes nothing.
 use mathlib.Core.Bool.{Bool, cond, not, _&&_, _||_}
 use mathlib.Core.List.{List, [], _∷_}
@@ -7,7 +8,7 @@ use lib.Dec.{ltb, leb, eqb}
 use Rattle.calls.specs.Runs.{after, gives}
 use Rattle.control.specs.declared.Decision.{Decision}
 use Rattle.control.specs.declared.Stage.{Stage}
-use Rattle.control.specs.declared.Stage.the-variants.{Searching, Waiting}
+use Rattle.control.specs.declared.Stage.the-variants.{Searching, Waiting, Held}
 use Rattle.control.specs.declared.Event.{Event}
 use Rattle.control.specs.declared.Event.the-variants.{Nothing, Number}
 use Rattle.control.specs.declared.Next.{Next}
@@ -16,28 +17,34 @@ use Rattle.control.specs.declared.Moved.{Moved}
 
 -- ---- events
 
--- an event below 256 is a character, 256 one without a stop bit, and 257 a lost carrier
+-- an event below 256 is a character, 256 one without a stop bit, 257 a lost carrier, and 258 a break
 abbrev pub noStop : ℕ
 noStop = 256
 
 abbrev pub carrierLost : ℕ
 carrierLost = 257
 
+abbrev pub breakBegun : ℕ
+breakBegun = 258
+
 -- every event is one of these (proofs/Events)
 unfoldable pub isEvent : ℕ → Bool
-isEvent n = ltb n 256 || (eqb n noStop || eqb n carrierLost)
+isEvent n = ltb n 256 || (eqb n noStop || (eqb n carrierLost || eqb n breakBegun))
 
 -- the numbers of an event
 abbrev pub numbers : Event → List ℕ
 numbers Nothing = []
 numbers (Number n) = n ∷ []
 
--- a stage without an event, and an event after which the receiver searches
+-- a stage without an event, an event after which the receiver searches, and a break, which is held
 abbrev pub quiet : Stage → Next
 quiet stage = record { stage = stage; event = Nothing }
 
 abbrev pub report : ℕ → Next
 report n = record { stage = Searching; event = Number n }
+
+abbrev pub holdBreak : Next
+holdBreak = record { stage = Held; event = Number breakBegun }
 
 -- ---- rule 3: while the level is good the run grows by 1, to 32 at most; else it becomes 0
 
@@ -64,22 +71,36 @@ abbrev pub dataTaken : ℕ → ℕ → Decision → Next
 dataTaken slot byte d =
     cond (not (d .good)) (report carrierLost) (quiet (Waiting 32 (slot + 1) (gathered slot byte (d .space))))
 
--- stop: level not good gives 257; else space above mark gives 256; else the event is the byte; then search
+-- space above mark at the stop: with byte 0 it is a break, and else 256 and search
+abbrev pub stopMissed : ℕ → Next
+stopMissed byte = cond (eqb byte 0) holdBreak (report noStop)
+
+-- stop: level not good gives 257 and search; else space above mark, see above; else the event is the byte, and search
 abbrev pub stopTaken : ℕ → Decision → Next
-stopTaken byte d = cond (not (d .good)) (report carrierLost) (cond (d .space) (report noStop) (report byte))
+stopTaken byte d = cond (not (d .good)) (report carrierLost) (cond (d .space) (stopMissed byte) (report byte))
 
 -- by its number: 0 the start, 1 to 8 data, 9 the stop
 unfoldable pub taken : ℕ → ℕ → Decision → Next
 taken slot byte d = cond (eqb slot 0) (startTaken d) (cond (leb slot 8) (dataTaken slot byte d) (stopTaken byte d))
 
--- ---- rules 4 and 5: the stage after a sample, from the run after it and the decision
+-- ---- rule 6: a break is held until the run is 32 and mark is at least space; then it searches, from the next sample on
+
+-- the sample ends a break
+abbrev pub endsBreak : ℕ → Decision → Bool
+endsBreak run d = eqb run 32 && not (d .space)
+
+abbrev pub held : ℕ → Decision → Stage
+held run d = cond (endsBreak run d) Searching Held
+
+-- ---- rules 4 to 6: the stage after a sample, from the run after it and the decision
 
 -- waiting: the wait falls by 1, and at 0 the slot is taken
 unfoldable pub nextOf : Stage → ℕ → Decision → Next
 nextOf Searching run d = quiet (searched run d)
 nextOf (Waiting wait slot byte) run d = cond (eqb (wait - 1) 0) (taken slot byte d) (quiet (Waiting (wait - 1) slot byte))
+nextOf Held run d = quiet (held run d)
 
--- ---- rules 3 to 5: what a sample does, by the decision at its window
+-- ---- rules 3 to 6: what a sample does, by the decision at its window
 
 -- the run, and from the run after the sample the stage and the event
 unfoldable pub movedBy : Control → Decision → Moved

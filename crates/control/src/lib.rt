@@ -10,10 +10,11 @@ ghost use Rattle.control.specs.AsCoded.{isFound, askedBy, waitOver};
 mod slot;
 
 // What the receiver does between samples: it searches for a start bit, or waits for a bit slot (the specification's moment: 0
-// start, 1 to 8 data, 9 stop) with the byte gathered so far.
+// start, 1 to 8 data, 9 stop) with the byte gathered so far, or a break is held and it waits for mark.
 pub enum Stage {
     Searching,
     Waiting { wait: u8, slot: u8, byte: u8 },
+    Held,
 }
 
 // The part of a receiver's state that decisions move: the run of samples with a good level, and the stage.
@@ -28,7 +29,7 @@ pub struct Decision {
     pub space: bool,
 }
 
-// A character (0 to 255), 256 for no stop bit or 257 for a lost carrier; or nothing.
+// A character (0 to 255), 256 for no stop bit, 257 for a lost carrier or 258 for a break; or nothing.
 pub enum Event {
     Nothing,
     Number(u16),
@@ -53,7 +54,7 @@ pub struct Moved {
     pub event: Event,
 }
 
-// Rules 3 to 5 of the specification for one sample, by the decision at its window. Out of their ranges run and stage come back as they are, and
+// Rules 3 to 6 of the specification for one sample, by the decision at its window. Out of their ranges run and stage come back as they are, and
 // there is no event.
 pub fn moved_by(control: Control, d: Decision) -> Moved
     ensures { λ r. ⌜ r ≡ cond (isControl control) (movedBy control d) (unmoved control) ⌝ }
@@ -135,6 +136,10 @@ pub fn asks_for(stage: Stage) -> Asked
             },
         },
         Stage::Waiting { wait, slot, byte } => Asked::Slot { wait, slot, byte },
+        Stage::Held => Asked::Tone {
+            space: false,
+            then: Stage::Searching,
+        },
     }
 }
 
@@ -164,5 +169,6 @@ fn is_stage(stage: Stage) -> bool
         Stage::Searching => true,
         Stage::Waiting { wait, slot, byte } => slot::is_wait(wait, slot)
             && slot::is_slot(slot, byte),
+        Stage::Held => true,
     }
 }

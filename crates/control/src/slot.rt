@@ -4,7 +4,7 @@ ghost use mathlib.Core.Bool.{true};
 ghost use Prim.Native.Nat.{_-_, _^_, _≤_, _<_};
 ghost use Rattle.control.specs.declared.Stage.the-variants.{Waiting};
 ghost use Rattle.control.specs.Ranges.{isWait, isSlot};
-ghost use Rattle.control.specs.Rules.{quiet, report, gathered, taken};
+ghost use Rattle.control.specs.Rules.{quiet, report, holdBreak, gathered, taken};
 use super::Decision;
 use super::Event;
 use super::Next;
@@ -25,10 +25,12 @@ pub(crate) fn take_slot(slot: u8, byte: u8, d: Decision) -> Next
         reporting(257)
     } else if slot <= 8 {
         waiting(slot + 1, gather(slot, byte, d.space))
-    } else if d.space {
-        reporting(256)
-    } else {
+    } else if !d.space {
         reporting(byte as u16)
+    } else if byte == 0 {
+        holding()
+    } else {
+        reporting(256)
     }
 }
 
@@ -74,6 +76,16 @@ fn reporting(number: u16) -> Next
     Next {
         stage: Stage::Searching,
         event: Event::Number(number),
+    }
+}
+
+// A break, which is held from here on.
+fn holding() -> Next
+    ensures { λ r. ⌜ r ≡ holdBreak ⌝ }
+{
+    Next {
+        stage: Stage::Held,
+        event: Event::Number(258),
     }
 }
 

@@ -11,7 +11,7 @@ use lib.Dec.{ltb, leb, eqb}
 use lib.IntN.{ℤ}
 use Rattle.integers.specs.All.{All, none, more}
 use Rattle.integers.proofs.Tests.{or-case}
-use Rattle.control.specs.Rules.{noStop, carrierLost, isEvent}
+use Rattle.control.specs.Rules.{noStop, carrierLost, breakBegun, isEvent}
 use Rattle.receiver.specs.declared.Receiver.{Receiver}
 use Rattle.receiver.specs.Step.{eventsAfter}
 use Rattle.receiver.specs.Calls.{inRange}
@@ -28,9 +28,11 @@ char-row n h = (le-leb 0 n zero-le, le-leb n 255 (omega arith))
 pub event-row : (n : ℕ) → isEvent n ≡ true → hasKind n ≡ true
 unfolding isEvent
 event-row n =
-    or-case (ltb n 256) (eqb n noStop || eqb n carrierLost)
+    or-case (ltb n 256) (eqb n noStop || (eqb n carrierLost || eqb n breakBegun))
     (λ e. rw (char-row n (ltb-true n 256 e) .0, char-row n (ltb-true n 256 e) .1) refl)
-    (or-case (eqb n noStop) (eqb n carrierLost) (λ e. rw (eqb-true n noStop e) refl) (λ e. rw (eqb-true n carrierLost e) refl))
+    (or-case (eqb n noStop) (eqb n carrierLost || eqb n breakBegun)
+    (λ e. rw (eqb-true n noStop e) refl)
+    (or-case (eqb n carrierLost) (eqb n breakBegun) (λ e. rw (eqb-true n carrierLost e) refl) (λ e. rw (eqb-true n breakBegun e) refl)))
 
 event-rows : {ns : List ℕ} → All (λ n. isEvent n ≡ true) ns → HaveKinds ns
 event-rows none = none
@@ -52,6 +54,8 @@ has-row (k ∷ ks) n (more p ps) h =
     (λ r. p (leb-true (k .first) n (and-elim-left low high r)) (leb-true n (k .last) (and-elim-right low high r)))
     (has-row ks n ps) h
 
--- above 256 one number has a row
-pub last-row : (n : ℕ) → 256 < n → hasKind n ≡ true → n ≡ 257
-last-row n l = has-row kinds n (more (λ low high. omega arith) (more (λ low high. omega arith) (more (λ low high. omega arith) none)))
+-- above 257 one number has a row
+pub last-row : (n : ℕ) → 257 < n → hasKind n ≡ true → n ≡ 258
+last-row n l =
+    has-row kinds n
+    (more (λ low high. omega arith) (more (λ low high. omega arith) (more (λ low high. omega arith) (more (λ low high. omega arith) none))))

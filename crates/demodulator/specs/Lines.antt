@@ -20,12 +20,13 @@ pub record Kind : Type 0 where
 abbrev pub kind : ℕ → ℕ → List ℕ → Kind
 kind first last name = record { first = first; last = last; name = name }
 
--- `char` for 0 to 255, `nostop` for 256, and `lost` for 257
+-- `char` for 0 to 255, `nostop` for 256, `lost` for 257, and `break` for 258
 abbrev pub kinds : List Kind
 kinds =
     kind 0 255 (99 ∷ 104 ∷ 97 ∷ 114 ∷ [])
     ∷ kind 256 256 (110 ∷ 111 ∷ 115 ∷ 116 ∷ 111 ∷ 112 ∷ [])
     ∷ kind 257 257 (108 ∷ 111 ∷ 115 ∷ 116 ∷ [])
+    ∷ kind 258 258 (98 ∷ 114 ∷ 101 ∷ 97 ∷ 107 ∷ [])
     ∷ []
 
 -- a row has a number

@@ -53,8 +53,12 @@ fn put_fields(out: &mut [u8], at: usize, event: u16) -> usize
         text::put_bytes(out, at, b" nostop --\n");
         return at + 11;
     }
-    text::put_bytes(out, at, b" lost --\n");
-    at + 9
+    if event == 257 {
+        text::put_bytes(out, at, b" lost --\n");
+        return at + 9;
+    }
+    text::put_bytes(out, at, b" break --\n");
+    at + 10
 }
 
 // The kind and value of a character.

@@ -39,6 +39,25 @@ stays-between Y k d r s X (stop-due byte zero a b) = absurd (omega arith)
 stays-between Y k d r s X (stop-due byte (suc zero) a b) = stops d r byte none-due
 stays-between Y k d r s X (stop-due byte (suc (suc wait)) a b) = waits d 32 (full d (r .good)) wait 9 byte (stop-due byte (suc wait) (omega arith) (omega arith))
 
+-- ---- a start bit is sought
+
+-- In the window with t samples of it; Y are the events from it on, and `Next` holds while it is sought and where it is found.
+module _ (Y : List ℕ) (t : ℕ) (d : Decision) (good : d .good ≡ true) (mark-before : t ≤ 14 → Reads d 1) (start-bit : 19 ≤ t → Reads d 0) {Next : Invariant}
+    (stays : t < 19 → (s : Control) (X : List ℕ) → BetweenCharacters Y (suc t) s X → Next s X) (found : 15 ≤ t → Next (at 32 (Waiting 16 0 0)) Y) where
+  from-15 : 15 ≤ t → Keeps (BetweenCharacters Y t) d Next
+  from-15 p s X (stop-due byte wait a b) = absurd (omega arith)
+  from-15 p s X none-due = go (d .space) refl
+    where
+      go : (space : Bool) → d .space ≡ space → Moves Next (at 32 Searching) d Y
+      go true e = finds d (record { good = good; space = e }) (found p)
+      go false e =
+          searches d (record { good = good; space = e })
+          (lt-or-le t 19 (λ q. stays q (at 32 Searching) Y none-due) (λ q. absurd (false≢true (sym e ∙ start-bit q .space))))
+
+  pub seeks-start : t ≤ 19 → Keeps (BetweenCharacters Y t) d Next
+  seeks-start l s X r =
+      lt-or-le t 15 (λ p. moves-on (stays (omega arith)) (stays-between Y t d (mark-before (omega arith)) s X r)) (λ p. from-15 p s X r)
+
 -- ---- the byte gathered
 
 -- before slot m of the character c
@@ -104,22 +123,9 @@ module _ (c : ℕ) (small : c < 256) (Y : List ℕ) (t : ℕ) (d : Decision) (h 
   start-bit a b = subst (Reads d) (bit-start c) (h .own-bit 0 (omega arith) (omega arith))
 
   step-before : t ≤ 19 → Keeps (BetweenCharacters (c ∷ Y) t) d Next
-  step-before l s X r =
-      lt-or-le t 15
-      (λ p. moves-on (λ s X r. before (omega arith) r) (stays-between (c ∷ Y) t d (h .mark-before (omega arith)) s X r))
-      (λ p. from-15 p s X r)
-    where
-      from-15 : 15 ≤ t → Keeps (BetweenCharacters (c ∷ Y) t) d Next
-      from-15 p s X (stop-due byte wait a b) = absurd (omega arith)
-      from-15 p s X none-due = go (d .space) refl
-        where
-          go : (space : Bool) → d .space ≡ space → Moves Next (at 32 Searching) d (c ∷ Y)
-          go true e =
-              finds d (record { good = h .good; space = e }) (reading 16 0 0 (omega arith) (omega arith) (omega arith) (omega arith) refl)
-          go false e =
-              searches d (record { good = h .good; space = e })
-              (lt-or-le t 19 (λ q. before (omega arith) none-due)
-              (λ q. absurd (false≢true (sym e ∙ start-bit (omega arith) (omega arith) .space))))
+  step-before l =
+      seeks-start (c ∷ Y) t d (h .good) (h .mark-before) (λ a. start-bit a (omega arith)) (λ q s X r. before (omega arith) r)
+      (λ p. reading 16 0 0 (omega arith) (omega arith) (omega arith) (omega arith) refl) l
 
   -- a slot is taken at this window
   step-start : 32 ≤ 1 + t → 1 + t ≤ 36 → (byte : ℕ) → Moves Next (at 32 (Waiting 1 0 byte)) d (c ∷ Y)

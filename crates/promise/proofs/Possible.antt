@@ -110,18 +110,31 @@ blocks-samples : (blocks : List Block) → each (λ (c : reading.Call). c .sampl
 blocks-samples [] = refl
 blocks-samples (block ∷ blocks) = ap (λ (l : List ℤ). block .samples ++ l) (blocks-samples blocks)
 
--- a recording is in the range of samples: 6,000 and 100 are below 8,192
-pub recorded-samples : (s : Transmitter) (calls : List sending.Call) (recorded : List ℤ) → Recording disturbance (sending.samplesWritten s calls) recorded
-    → areSamples recorded ≡ true
-recorded-samples s calls recorded r =
+-- a recording of samples up to 6,000 is in the range of samples: 6,000 and 100 are below 8,192
+pub recording-range : {samples recorded : List ℤ} → Bounded 6000 samples → Recording disturbance samples recorded → areSamples recorded ≡ true
+recording-range {samples} {recorded} b r =
     bounded-samples recorded (omega arith)
     (near-bounded (recording-near r)
-    (bounded-append (silence (r .before)) (written ++ silence (r .after)) (bounded-zeros 6000 (r .before))
-    (bounded-append written (silence (r .after)) (subst (Bounded 6000) (sym (samples-written s calls)) (send-bound (s .phase) (sending.stepsSent s calls)))
-    (bounded-zeros 6000 (r .after)))))
-  where
-    written : List ℤ
-    written = sending.samplesWritten s calls
+    (bounded-append (silence (r .before)) (samples ++ silence (r .after)) (bounded-zeros 6000 (r .before))
+    (bounded-append samples (silence (r .after)) b (bounded-zeros 6000 (r .after)))))
+
+pub recorded-samples : (s : Transmitter) (calls : List sending.Call) (recorded : List ℤ) → Recording disturbance (sending.samplesWritten s calls) recorded
+    → areSamples recorded ≡ true
+recorded-samples s calls recorded =
+    recording-range (subst (Bounded 6000) (sym (samples-written s calls)) (send-bound (s .phase) (sending.stepsSent s calls)))
+
+-- blocks of samples in their range are all read
+module _ (band : ℕ) (known : isBand band ≡ true) (blocks : List Block) (short : All (λ block. length (block .samples) ≤ mostSamples) blocks)
+    (sound : areSamples (joinedBlocks blocks) ≡ true) where
+  pub blocks-accepted : acceptedCalls reading.callOf (receiver.fresh band) (blockCalls blocks) ≡ blockCalls blocks
+  blocks-accepted =
+      all-accepted reading.callOf (λ (s : Receiver). receiver.inRange s ≡ true) ReadFits read-accepts (blockCalls blocks)
+      (blocks-fit blocks short sound) (receiver.fresh band) (receiver-ranges.fresh-kept band known)
+
+  pub blocks-read : reading.samplesRead (receiver.fresh band) (blockCalls blocks) ≡ joinedBlocks blocks
+  blocks-read =
+      joined-each reading.callOf (λ (c : reading.Call). c .samples) (receiver.fresh band) (blockCalls blocks)
+      ∙ ap (each (λ (c : reading.Call). c .samples)) blocks-accepted ∙ blocks-samples blocks
 
 -- ---- both
 
@@ -150,9 +163,7 @@ not-vacuous band known texts ts before after added small blocks bs sum =
             recorded = joinedBlocks blocks;
             recording = recording;
             blocks = blockCalls blocks;
-            read =
-                joined-each reading.callOf (λ (c : reading.Call). c .samples) (receiver.fresh band) (blockCalls blocks)
-                ∙ ap (each (λ (c : reading.Call). c .samples)) all-read ∙ blocks-samples blocks;
+            read = blocks-read band known blocks bs sound;
           };
       in-band = refl;
       sent = refl;
@@ -160,14 +171,11 @@ not-vacuous band known texts ts before after added small blocks bs sum =
       message = message-sent band known texts ts;
       recorded = refl;
       read = refl;
-      all-read = all-read;
+      all-read = blocks-accepted band known blocks bs sound;
     }
   where
     recording : Recording disturbance (sending.samplesWritten (transmitter.fresh band) (sendingCalls texts)) (joinedBlocks blocks)
     recording = record { before = before; after = after; added = added; small = small; sum = sum }
 
-    all-read : acceptedCalls reading.callOf (receiver.fresh band) (blockCalls blocks) ≡ blockCalls blocks
-    all-read =
-        all-accepted reading.callOf (λ (s : Receiver). receiver.inRange s ≡ true) ReadFits read-accepts (blockCalls blocks)
-        (blocks-fit blocks bs (recorded-samples (transmitter.fresh band) (sendingCalls texts) (joinedBlocks blocks) recording))
-        (receiver.fresh band) (receiver-ranges.fresh-kept band known)
+    sound : areSamples (joinedBlocks blocks) ≡ true
+    sound = recorded-samples (transmitter.fresh band) (sendingCalls texts) (joinedBlocks blocks) recording

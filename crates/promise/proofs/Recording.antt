@@ -16,7 +16,7 @@ use Rattle.calls.specs.Runs.{gives}
 use Rattle.sine.specs.Wave.{wave}
 use Rattle.sine.proofs.Wave.{length-wave}
 use Rattle.tones.specs.declared.Tones.{Tones}
-use Rattle.transmitter.specs.Samples.{send, bitSteps, sendBits, idleBits, dataBits, charBits, charactersBits}
+use Rattle.transmitter.specs.Samples.{send, bitSteps, sendBits, idleBits, dataBits, charBits, charactersBits, messageBits}
 use Rattle.transmitter.proofs.Laws.{bitAt, length-char}
 use Rattle.control.specs.declared.Stage.the-variants.{Searching}
 use Rattle.control.specs.declared.Control.{Control}
@@ -36,11 +36,11 @@ module _ {noise : ℕ} (t : Tones) (M : Margins noise t) (m : ℕ) where
   abbrev ReadAs : List ℤ → Control → List ℕ → Type 0
   ReadAs = Gives noise (decisionOf t)
 
-  abbrev ReadFrom : Invariant → List ℤ → Type 0
+  abbrev pub ReadFrom : Invariant → List ℤ → Type 0
   ReadFrom = GivesFrom noise (decisionOf t)
 
   -- the sending from the bit a on, which begins at the phase p
-  abbrev sending : ℕ → ℕ → List ℕ → List ℤ
+  abbrev pub sending : ℕ → ℕ → List ℕ → List ℤ
   sending p a bits = sentFrom t M p a bits m
 
   -- ---- from the trailer's last bit on
@@ -76,7 +76,7 @@ module _ {noise : ℕ} (t : Tones) (M : Margins noise t) (m : ℕ) where
         (λ k h w n. after-trailer-step k (decisionOf t w) (λ l. at-first k h l w n) (λ l. afterwards k h l w n)) nothing (at 32 Searching) [] (still-searching 32)
 
   -- ---- a mark behind a mark: what was stop-due is given
-  through-mark : (p : ℕ) → M .Begins p → (bits Y : List ℕ) → ReadAs (sending (phaseAfterBit t p 1) 1 bits) (at 32 Searching) Y
+  pub through-mark : (p : ℕ) → M .Begins p → (bits Y : List ℕ) → ReadAs (sending (phaseAfterBit t p 1) 1 bits) (at 32 Searching) Y
       → ReadFrom (BetweenCharacters Y 0) (sending p 1 (1 ∷ bits))
   through-mark p begins bits Y rest =
       through-bit t M p begins 1 1 bits m (BetweenCharacters Y) (λ k h d r. stays-between Y k d (r .steady refl)) mark-over
@@ -91,7 +91,7 @@ module _ {noise : ℕ} (t : Tones) (M : Margins noise t) (m : ℕ) where
   from-marks (suc n) p begins =
       through-mark p begins (1 ∷ replicate n 1) [] (from-marks n (phaseAfterBit t p 1) (M .next-bit p begins 1) (at 32 Searching) [] none-due)
 
-  from-trailer : (p : ℕ) → M .Begins p → ReadFrom (BetweenCharacters [] 0) (sending p 1 idleBits)
+  pub from-trailer : (p : ℕ) → M .Begins p → ReadFrom (BetweenCharacters [] 0) (sending p 1 idleBits)
   from-trailer = from-marks 2
 
   -- ---- a character
@@ -115,7 +115,7 @@ module _ {noise : ℕ} (t : Tones) (M : Margins noise t) (m : ℕ) where
         (λ s X w. from-bit n (suc j) (omega arith) (phaseAfterBit t p a) (M .next-bit p begins a) s X (rw later at w))
         s X (rw first at w))
 
-    through-character : (p : ℕ) → M .Begins p → ReadFrom (BetweenCharacters (c ∷ Y) 0) (sending p 1 (charBits c ++ bits))
+    pub through-character : (p : ℕ) → M .Begins p → ReadFrom (BetweenCharacters (c ∷ Y) 0) (sending p 1 (charBits c ++ bits))
     through-character p begins s X r = from-bit 10 0 refl p begins s X (before (omega arith) r)
 
   -- ---- from the characters on
@@ -126,11 +126,8 @@ module _ {noise : ℕ} (t : Tones) (M : Margins noise t) (m : ℕ) where
       subst (λ (bits : List ℕ). ReadFrom (BetweenCharacters (c ∷ cs) 0) (sending p 1 bits)) (sym (append-assoc (charBits c) (charactersBits cs) idleBits))
       (through-character c small cs (charactersBits cs ++ idleBits) (from-message cs b) p begins)
 
-  -- ---- from the leader on
-  module _ (cs : List ℕ) (bytes : AreBytes cs) where
-    abbrev message : List ℕ
-    message = charactersBits cs ++ idleBits
-
+  -- ---- from the leader on, with any bits behind it that are read as cs
+  module _ (cs message : List ℕ) (from-bits : (p : ℕ) → M .Begins p → ReadFrom (BetweenCharacters cs 0) (sending p 1 message)) where
     from-leader : ReadFrom (SecondBit cs 0) (sending 0 1 (1 ∷ 1 ∷ message))
     from-leader = through-bit t M 0 (M .first-bit) 1 1 (1 ∷ message) m (SecondBit cs) (λ k h d r. second-bit-step cs k h d (r .steady refl)) second-bit-over
       where
@@ -144,7 +141,7 @@ module _ {noise : ℕ} (t : Tones) (M : Margins noise t) (m : ℕ) where
         second-bit-over s X (growing-run run a b) =
             let full : run ≡ 32 = omega arith in
             rw full
-            (through-mark p begins message cs (from-message cs bytes (phaseAfterBit t p 1) (M .next-bit p begins 1) (at 32 Searching) cs none-due) (at 32 Searching) cs none-due)
+            (through-mark p begins message cs (from-bits (phaseAfterBit t p 1) (M .next-bit p begins 1) (at 32 Searching) cs none-due) (at 32 Searching) cs none-due)
 
     -- ---- from silence on
     abbrev sent : List ℤ
@@ -162,8 +159,8 @@ module _ {noise : ℕ} (t : Tones) (M : Margins noise t) (m : ℕ) where
         first-bit-over s X (short-run run l) = from-leader (at run Searching) cs (growing-run run (omega arith) (omega arith))
 
     -- the whole recording, behind the 31 silent samples that a fresh window brings
-    pub recorded : (n : ℕ) → ReadAs (silence 31 ++ (silence n ++ (sendBits t 0 (idleBits ++ message) ++ silence m))) (at 0 Searching) cs
-    recorded n =
+    pub recorded-bits : (n : ℕ) → ReadAs (silence 31 ++ (silence n ++ (sendBits t 0 (idleBits ++ message) ++ silence m))) (at 0 Searching) cs
+    recorded-bits n =
         subst (λ (clean : List ℤ). ReadAs clean (at 0 Searching) cs) (sym order)
         (along noise (decisionOf t) (silence n ++ (silence 31 ++ sent)) n long (Silent cs) quiet-window rest (at 0 Searching) cs silent)
       where
@@ -186,3 +183,7 @@ module _ {noise : ℕ} (t : Tones) (M : Margins noise t) (m : ℕ) where
         rest : ReadFrom (Silent cs n) (drop n (silence n ++ (silence 31 ++ sent)))
         rest s X silent =
             subst (λ (clean : List ℤ). ReadAs clean (at 0 Searching) cs) (sym (drop-at (silence n) (silence 31 ++ sent) n (length-replicate n (pos 0)))) from-first-bit
+
+  pub recorded : (cs : List ℕ) → AreBytes cs → (n : ℕ)
+      → ReadAs (silence 31 ++ (silence n ++ (sendBits t 0 (messageBits cs) ++ silence m))) (at 0 Searching) cs
+  recorded cs bytes = recorded-bits cs (charactersBits cs ++ idleBits) (from-message cs bytes)

@@ -33,14 +33,20 @@ in-range s h =
       control = and-elim-right (areSamples (s .window)) (isControl (controlOf s)) t;
     }
 
+pub from-ranges : (s : Receiver) → InRange s → inRange s ≡ true
+unfolding inRange
+from-ranges s r = and-intro (r .band) (and-intro (r .window) (r .control))
+
 step-kept : (s : Receiver) (x : ℤ) → inRange s ≡ true → isSample x ≡ true → inRange (afterSample s x) ≡ true
-unfolding inRange afterSample areBetween
+unfolding afterSample areBetween
 step-kept s x h l =
     let r : InRange s = in-range s h in
-    and-intro (r .band)
-    (and-intro
-    (samples-append (drop 1 (s .window)) (x ∷ []) ∙ and-intro (samples-drop 1 (s .window) (r .window)) (and-intro l refl))
-    (control-kept (controlOf s) (decisionAt s x) (r .control)))
+    from-ranges (afterSample s x)
+    (record {
+      band = r .band;
+      window = samples-append (drop 1 (s .window)) (x ∷ []) ∙ and-intro (samples-drop 1 (s .window) (r .window)) (and-intro l refl);
+      control = control-kept (controlOf s) (decisionAt s x) (r .control);
+    })
 
 pub state-kept : (s : Receiver) (xs : List ℤ) → inRange s ≡ true → areSamples xs ≡ true → inRange (stateAfter s xs) ≡ true
 unfolding after areBetween

@@ -30,7 +30,7 @@ unfoldable pub energyℕ : List ℤ → ℕ → ℕ
 energyℕ window t =
     natAbs (inPhase window t) * natAbs (inPhase window t) + natAbs (quadrature window t) * natAbs (quadrature window t)
 
--- ---- rule 3, and the comparison of rules 4 and 5
+-- ---- rule 3, and the comparison of rules 4 to 6
 
 -- the least energy of a good level
 abbrev pub level : ℕ

@@ -1,5 +1,5 @@
 -- The step rule: what one sample, and a list of samples, does to a receiver: the specification, "Reader, step by step". What a decision does
--- to run and stage, its rules 3 to 5, stands in `control`.
+-- to run and stage, its rules 3 to 6, stands in `control`.
 -- Assumes nothing.
 use mathlib.Core.List.{List, [], _∷_, _++_}
 use Prim.Native.Nat.{ℕ}

@@ -94,10 +94,11 @@ fn as_turn(s: Sought, stage: Stage, then: Stage) -> Turn
     ensures { λ r. ⌜ r ≡ soughtTo s stage then ⌝ }
 {
     let place = s.place;
+    let event = Event::Nothing;
     Turn {
         place,
         stage: if s.found { then } else { stage },
-        event: Event::Nothing,
+        event,
     }
 }
 

@@ -2,15 +2,16 @@
 -- an entry of the receiver gives: the two entries have one contract.
 -- Assumes nothing.
 use mathlib.Core.Path.{_≡_, refl, ap, _∙_}
-use mathlib.Core.Bool.{and-false}
+use mathlib.Core.Bool.{false, and-false}
 use mathlib.Core.List.{List}
 use Prim.Native.Nat.{ℕ, _≤_}
 use native.Mathlib.Omega.{arith}
 use borrow.Author.Tests.{ne-eqb}
+use lib.Dec.{eqb}
 use lib.IntN.{ℤ}
 use Rattle.calls.specs.Outcome.{answerOf, outcome, refused}
 use Rattle.control.specs.declared.Stage.{Stage}
-use Rattle.control.specs.declared.Stage.the-variants.{Searching, Waiting}
+use Rattle.control.specs.declared.Stage.the-variants.{Searching, Waiting, Held}
 use Rattle.control.specs.Ranges.{isStage, isControl}
 use Rattle.receiver.specs.declared.Receiver.{Receiver}
 use Rattle.receiver.specs.declared.Reading.{Reading}
@@ -23,15 +24,17 @@ use Rattle.receiving.specs.Numbers.{stageNumbers, stageOf, numbersOf, re
 stage-stored : (s : Stage) → stageOf (stageNumbers s) ≡ s
 stage-stored Searching = refl
 stage-stored (Waiting wait slot byte) = refl
+stage-stored Held = refl
 
 pub state-stored : (s : Receiver) → receiverOf (numbersOf s) ≡ s
 state-stored s i = record { band = s .band; window = s .window; run = s .run; stage = stage-stored (s .stage) i }
 
--- a stage number above 1 is refused with 2, and the state comes back as it was handed
-pub stage-refused : (n : State) (xs : List ℤ) (lent : List ℕ) → 2 ≤ n .stage → blockNumbers n xs lent ≡ refused 2 n lent
+-- a stage number above 2 is refused with 2, and the state comes back as it was handed
+pub stage-refused : (n : State) (xs : List ℤ) (lent : List ℕ) → 3 ≤ n .stage → blockNumbers n xs lent ≡ refused 2 n lent
 unfolding blockOf inRange isControl isStage
 stage-refused n xs lent h =
-    simp (ne-eqb (n .stage) 0 (λ e. omega (arith, e)), ne-eqb (n .stage) 1 (λ e. omega (arith, e)), and-false)
+    let other : (k : ℕ) → k ≤ 2 → eqb (n .stage) k ≡ false = λ k l. ne-eqb (n .stage) k (λ e. omega arith) in
+    simp (other 0 (omega arith), other 1 (omega arith), other 2 (omega arith), and-false)
 
 -- An entry is called with the state of the numbers n and gives r; what is handed back of r is the call on n.
 module _ (n : State) (xs : List ℤ) (lent : List ℕ) {s : Receiver} {r : Reading} {now : List ℕ} {b : Block} where

@@ -8,7 +8,7 @@ use lib.Dec.{eqb}
 use lib.IntN.{ℤ}
 use Rattle.calls.specs.Outcome.{Outcome}
 use Rattle.control.specs.declared.Stage.{Stage}
-use Rattle.control.specs.declared.Stage.the-variants.{Searching, Waiting}
+use Rattle.control.specs.declared.Stage.the-variants.{Searching, Waiting, Held}
 use Rattle.receiver.specs.declared.Receiver.{Receiver}
 use Rattle.receiver.specs.declared.Opened.{Opened}
 use Rattle.receiver.specs.declared.Reading.{Reading}
@@ -24,10 +24,13 @@ use Rattle.receiving.specs.declared.Block.{Block}
 abbrev pub stageNumbers : Stage → StageNumbers
 stageNumbers Searching = record { stage = 0; wait = 0; slot = 0; byte = 0 }
 stageNumbers (Waiting wait slot byte) = record { stage = 1; wait = wait; slot = slot; byte = byte }
+stageNumbers Held = record { stage = 2; wait = 0; slot = 0; byte = 0 }
 
--- the stage of numbers: 0 is searching and 1 waiting; any other is taken as a wait of 0, which is out of the ranges
+-- the stage of numbers: 0 is searching, 1 waiting and 2 a held break; any other is taken as a wait of 0, which is out of the ranges
 abbrev pub stageOf : StageNumbers → Stage
-stageOf n = cond (eqb (n .stage) 0) Searching (cond (eqb (n .stage) 1) (Waiting (n .wait) (n .slot) (n .byte)) (Waiting 0 0 0))
+stageOf n =
+    cond (eqb (n .stage) 0) Searching
+    (cond (eqb (n .stage) 1) (Waiting (n .wait) (n .slot) (n .byte)) (cond (eqb (n .stage) 2) Held (Waiting 0 0 0)))
 
 -- ---- a state
 

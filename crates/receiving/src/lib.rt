@@ -10,8 +10,8 @@ use control::Stage;
 use receiver::Reading;
 use receiver::Receiver;
 
-// A receiver's state as numbers. Stage 0 is searching, and stage 1 is waiting, with its wait, slot and byte; where a call gives 0, these
-// three are 0 too. Any other stage is out of its range.
+// A receiver's state as numbers. Stage 0 is searching, stage 1 is waiting, with its wait, slot and byte, and stage 2 is a held break; where
+// a call gives 0 or 2, these three are 0. Any other stage is out of its range.
 #[repr(C)]
 pub struct State {
     pub band: u8,
@@ -129,7 +129,7 @@ fn numbers_of(receiver: Receiver) -> State
     }
 }
 
-// The stage of its numbers. That of a number above 1 is no stage in its ranges, so that a call refuses it.
+// The stage of its numbers. That of a number above 2 is no stage in its ranges, so that a call refuses it.
 fn stage_of(n: StageNumbers) -> Stage
     ensures { λ r. ⌜ r ≡ stageOf n ⌝ }
 {
@@ -141,6 +141,8 @@ fn stage_of(n: StageNumbers) -> Stage
             slot: n.slot,
             byte: n.byte,
         }
+    } else if n.stage == 2 {
+        Stage::Held
     } else {
         Stage::Waiting {
             wait: 0,
@@ -165,6 +167,12 @@ fn stage_numbers(stage: Stage) -> StageNumbers
             wait,
             slot,
             byte,
+        },
+        Stage::Held => StageNumbers {
+            stage: 2,
+            wait: 0,
+            slot: 0,
+            byte: 0,
         },
     }
 }

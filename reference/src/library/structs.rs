@@ -34,8 +34,8 @@ pub struct Sent {
     pub count: usize,
 }
 
-/// `modem_receiver`, the state of a receiver. Handed in, stage 0 is searching
-/// whatever the three numbers behind it are, and 1 is waiting.
+/// `modem_receiver`, the state of a receiver. Handed in, stage 0 is searching and
+/// 2 a held break, whatever the three numbers behind it are, and 1 is waiting.
 #[repr(C)]
 #[derive(Clone, Copy, Debug, PartialEq, Eq)]
 pub struct Numbers {
@@ -99,6 +99,7 @@ fn stage_numbers(stage: Stage) -> [u8; 4] {
     match stage {
         Stage::Searching => [0; 4],
         Stage::Waiting { wait, slot, byte } => [1, wait, slot, byte],
+        Stage::Held => [2, 0, 0, 0],
     }
 }
 
@@ -108,6 +109,7 @@ fn stage_of(numbers: [u8; 4]) -> Stage {
     match numbers {
         [0, ..] => Stage::Searching,
         [1, wait, slot, byte] => Stage::Waiting { wait, slot, byte },
+        [2, ..] => Stage::Held,
         _ => receiver::waiting(0, 0, 0),
     }
 }

@@ -1,34 +1,37 @@
 //! What readings have brought: a test that met too little would show nothing.
 
-use super::receiver::{compare_accepted, read_by, Reading, CARRIER_LOST, NO_STOP_BIT};
+use super::receiver::{compare_accepted, read_by, Reading, BREAK, CARRIER_LOST, NO_STOP_BIT};
 use reference::library::Numbers;
 
-/// How many events are characters, lack a stop bit or tell a lost carrier.
-pub fn kinds(events: &[u16]) -> [usize; 3] {
-    let mut kinds = [0; 3];
+/// How many events are characters, missing stop bits, lost carriers and breaks.
+pub type Kinds = [usize; 4];
+
+pub fn kinds(events: &[u16]) -> Kinds {
+    let mut kinds = [0; 4];
     for &event in events {
         kinds[match event {
             0..=255 => 0,
             NO_STOP_BIT => 1,
             CARRIER_LOST => 2,
+            BREAK => 3,
             _ => panic!("event {event}"),
         }] += 1;
     }
     kinds
 }
 
-/// At least so many characters, missing stop bits and lost carriers.
-pub fn assert_frequent(kinds: [usize; 3], least: [usize; 3]) {
-    let enough = (0..3).all(|kind| kinds[kind] >= least[kind]);
+/// At least so many of each.
+pub fn assert_frequent(kinds: Kinds, least: Kinds) {
+    let enough = (0..4).all(|kind| kinds[kind] >= least[kind]);
     assert!(enough, "{kinds:?} is too rare for {least:?}");
 }
 
 /// Counts of the events, and of the states that the library left behind blocks
 /// of one sample or more. An empty block leaves what it was handed.
 pub struct Met {
-    pub kinds: [usize; 3],
-    /// The states that search and those that wait, by run.
-    runs: [Counts; 2],
+    pub kinds: Kinds,
+    /// The states that search, those that wait and those that hold a break, by run.
+    runs: [Counts; 3],
     /// The states that wait, by slot and wait.
     waits: [Counts; 10],
 }
@@ -39,8 +42,8 @@ type Counts = [usize; 33];
 impl Met {
     pub fn new() -> Met {
         Met {
-            kinds: [0; 3],
-            runs: [[0; 33]; 2],
+            kinds: [0; 4],
+            runs: [[0; 33]; 3],
             waits: [[0; 33]; 10],
         }
     }
@@ -53,7 +56,7 @@ impl Met {
             let state = reading.answer.state;
             let [stage, wait, slot, _] = state.stage_numbers().map(usize::from);
             self.runs[stage][usize::from(state.run)] += 1;
-            self.waits[slot][wait] += stage;
+            self.waits[slot][wait] += usize::from(stage == 1);
         }
     }
 
@@ -80,6 +83,11 @@ impl Met {
     /// The same of states that wait.
     pub fn assert_waiting_runs(&self, least: usize) {
         assert_each("run while waiting", &self.runs[1], 0, least);
+    }
+
+    /// The same of states that hold a break.
+    pub fn assert_held_runs(&self, least: usize) {
+        assert_each("run while holding", &self.runs[2], 0, least);
     }
 
     /// Every wait for every slot was met at least so often.

@@ -11,8 +11,9 @@ pub const WINDOW: usize = 32;
 pub const MOST_SAMPLES: usize = 16_384;
 pub const NO_STOP_BIT: u16 = 256;
 pub const CARRIER_LOST: u16 = 257;
+pub const BREAK: u16 = 258;
 /// An event is below this.
-pub const EVENTS: usize = 258;
+pub const EVENTS: usize = 259;
 
 pub const FRESH: Numbers = Numbers {
     band: 1,

@@ -1,5 +1,6 @@
 //! Sendings of the reference's transmitter, and recordings of them.
 
+use super::receiver::BREAK;
 use super::sines;
 use super::states::steps;
 use reference::disturbance::MOST;
@@ -11,28 +12,92 @@ pub fn sending(band: u8, message: &[u8]) -> Vec<i16> {
     transmitter::sending(sines(), band, message)
 }
 
+/// The start bit, the data bits and the stop bit.
+fn framed(byte: u8) -> [usize; 10] {
+    std::array::from_fn(|place| match place {
+        0 => 0,
+        9 => 1,
+        _ => usize::from(byte >> (place - 1) & 1),
+    })
+}
+
 /// The bits of a sending: leader, characters and trailer.
 pub fn bits(message: &[u8]) -> Vec<usize> {
-    let mut bits = vec![1; 3];
-    for byte in message {
-        let data = (0..8).map(|place| usize::from(byte / 2_u8.pow(place) % 2));
-        bits.extend([0].into_iter().chain(data).chain([1]));
-    }
-    bits.extend([1; 3]);
+    let characters = message.iter().flat_map(|&byte| framed(byte));
+    let idle = [1; 3];
+    idle.into_iter().chain(characters).chain(idle).collect()
+}
+
+/// The same with space for the stop bit of the first character.
+pub fn no_stop_bit(message: &[u8]) -> Vec<usize> {
+    let mut bits = bits(message);
+    // Behind the leader, the start bit and the data.
+    bits[3 + 1 + 8] = 0;
     bits
 }
 
 /// The samples of any bits, from phase 0.
 pub fn keyed(band: u8, bits: &[usize]) -> Vec<i16> {
+    toned(band, bits.iter().flat_map(|&bit| [bit; 32]))
+}
+
+/// The same of bits that may change at any sample: there is one for each.
+pub fn toned(band: u8, bits: impl IntoIterator<Item = usize>) -> Vec<i16> {
     let mut phase = 0;
-    let mut samples = Vec::new();
-    for &bit in bits {
-        for _ in 0..32 {
-            samples.push(sines().s(phase));
-            phase += steps(band)[bit];
+    let sample = |bit: usize| {
+        let sample = sines().s(phase);
+        phase += steps(band)[bit];
+        sample
+    };
+    bits.into_iter().map(sample).collect()
+}
+
+/// So many samples of space, from phase 0.
+pub fn space(band: u8, count: usize) -> Vec<i16> {
+    toned(band, vec![0; count])
+}
+
+/// What an operator sends between leader and trailer.
+#[derive(Clone, Copy, Debug)]
+pub enum Item {
+    Character(u8),
+    /// So many samples of space, and three mark bits behind them.
+    Break(usize),
+}
+
+impl Item {
+    /// A character, often 00 hexadecimal, or a break of 10 to 40 bits that ends at
+    /// any sample.
+    pub fn any(random: &mut Random) -> Item {
+        match random.below(8) {
+            0 => Item::Character(0),
+            1..=4 => Item::Character(random.below(256) as u8),
+            _ => Item::Break(320 + random.below(961)),
         }
     }
-    samples
+
+    /// The bit of each sample.
+    fn bits(self) -> Vec<usize> {
+        match self {
+            Item::Character(byte) => framed(byte).map(|bit| [bit; 32]).concat(),
+            Item::Break(samples) => [vec![0; samples], vec![1; 96]].concat(),
+        }
+    }
+
+    /// What the receiver is to tell of it.
+    pub fn event(self) -> u16 {
+        match self {
+            Item::Character(byte) => u16::from(byte),
+            Item::Break(_) => BREAK,
+        }
+    }
+}
+
+/// Leader, items and trailer.
+pub fn sending_of(band: u8, items: &[Item]) -> Vec<i16> {
+    let idle = [1; 96];
+    let items = items.iter().flat_map(|item| item.bits());
+    toned(band, idle.into_iter().chain(items).chain(idle))
 }
 
 /// The sending with silence before and behind it.

@@ -16,7 +16,7 @@ fn spoiled(random: &mut Random, state: Numbers) -> Numbers {
     let spoiled = match random.below(4) {
         0 => Numbers { band: 0, ..state },
         1 => Numbers { run: 33, ..state },
-        2 => state.with_stage([[1, 33, 1, 0], [2, 16, 0, 0]][random.below(2)]),
+        2 => state.with_stage([[1, 33, 1, 0], [3, 16, 0, 0]][random.below(2)]),
         _ => {
             let mut window = state.window;
             window[random.below(window.len())] = -8_192;

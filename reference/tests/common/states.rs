@@ -6,12 +6,16 @@ use super::{sines, BANDS, NO_BAND};
 use reference::library::Numbers;
 use reference::random::Random;
 
-/// The ranges of the specification. Of a search nothing else is looked at.
+/// The numbers of a held break.
+pub const HELD: [u8; 4] = [2, 0, 0, 0];
+
+/// The ranges of the specification. Of a search and of a held break nothing else
+/// is looked at.
 pub fn is_good(state: &Numbers) -> bool {
     let [stage, wait, slot, byte] = state.stage_numbers().map(u32::from);
     let stage = match slot {
-        _ if stage == 0 => true,
-        _ if stage > 1 => false,
+        _ if stage == 0 || stage == 2 => true,
+        _ if stage > 2 => false,
         0 => (1..=16).contains(&wait) && byte == 0,
         1 => (1..=32).contains(&wait) && byte == 0,
         2..=9 => (1..=32).contains(&wait) && byte < 2_u32.pow(slot - 1),
@@ -45,12 +49,23 @@ pub fn steps(band: u8) -> [usize; 2] {
     [[214, 254], [405, 445]][usize::from(band) - 1]
 }
 
+/// A window of the tone of a bit, at a part of its loudness.
+pub fn window_of(band: u8, bit: usize, part: i16) -> [i16; WINDOW] {
+    let step = steps(band)[bit];
+    std::array::from_fn(|place| sines().s(place * step) / part)
+}
+
 /// A tone of space or mark, or one near them, at any phase and loudness.
 pub fn tone(random: &mut Random, band: u8, count: usize) -> Vec<i16> {
     let step = match random.below(5) {
         0 => random.below(960),
         other => steps(band)[other % 2],
     };
+    tone_of(random, step, count)
+}
+
+/// The tone of this step, at any phase and loudness.
+pub fn tone_of(random: &mut Random, step: usize, count: usize) -> Vec<i16> {
     let phase = random.below(1_920);
     // In 6000ths; about 1875 of them make the least good level.
     let loudness = match random.below(4) {
@@ -106,7 +121,8 @@ pub fn any_block(random: &mut Random, band: u8) -> (Vec<i16>, usize) {
     (samples, places)
 }
 
-/// Any state in range, mostly waiting; a search may have any numbers behind it.
+/// Any state in range, mostly waiting; a search or a held break may have any
+/// numbers behind it.
 pub fn good_state(random: &mut Random) -> Numbers {
     let band = BANDS[random.below(BANDS.len())];
     let window = any_samples(random, band, WINDOW);
@@ -114,11 +130,11 @@ pub fn good_state(random: &mut Random) -> Numbers {
         0 => 32,
         _ => random.below(33) as u8,
     };
-    let stage = match random.below(4) {
-        0 => {
+    let stage = match random.below(5) {
+        half @ (0 | 1) => {
             let rest = if random.below(2) == 0 { 1 } else { 256 };
             let mut number = || random.below(rest) as u8;
-            [0, number(), number(), number()]
+            [[0, 2][half], number(), number(), number()]
         }
         _ => {
             let slot = random.below(10) as u8;
@@ -149,7 +165,7 @@ pub fn hostile_state(random: &mut Random) -> Numbers {
             let bad = [-32_768, -8_193, -8_192, 8_192, 8_193, 32_767];
             state.window[random.below(WINDOW)] = bad[random.below(bad.len())];
         }
-        3 => state.stage = 2 + random.below(256 - 2) as u8,
+        3 => state.stage = 3 + random.below(256 - 3) as u8,
         _ => state = state.with_stage(hostile_wait(random)),
     }
     assert!(!is_good(&state), "{state:?}");

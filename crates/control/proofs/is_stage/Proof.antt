@@ -18,6 +18,9 @@ is-wait-requires c κs = tt
 is-slot-requires : tie.Need-is-slot-requires
 is-slot-requires c κs = tt
 
+enum-told-2 : tie.Need-enum-told-2
+enum-told-2 c = search needs
+
 returns : tie.Need-returns
 unfolding isStage
 returns c = rw (c .enum-told .given .1)
@@ -30,5 +33,9 @@ returns-3 : tie.Need-returns-3
 unfolding isStage
 returns-3 c = rw (c .if1 .left, c .before .before .before .stage .given .1, sym (c .before .is-wait .ensures) ∙ c .if1 .left)
 
+returns-4 : tie.Need-returns-4
+unfolding isStage
+returns-4 c = rw (c .enum-told2 .given .1)
+
 pub is-stage-spec : {M : Type 1} → statement M
-is-stage-spec = tie.close (tie.spec enum-told enum-known-stage is-wait-requires is-slot-requires returns returns-2 returns-3)
+is-stage-spec = tie.close (tie.spec enum-told enum-known-stage is-wait-requires is-slot-requires enum-told-2 returns returns-2 returns-3 returns-4)

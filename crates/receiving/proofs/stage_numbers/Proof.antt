@@ -10,11 +10,17 @@ enum-told c = search needs
 enum-known-stage : tie.Need-enum-known-stage
 enum-known-stage c = search needs
 
+enum-told-2 : tie.Need-enum-told-2
+enum-told-2 c = search needs
+
 returns : tie.Need-returns
 returns c = rw (c .enum-told .given .1)
 
 returns-2 : tie.Need-returns-2
 returns-2 c = rw (c .before .stage .given .1)
 
+returns-3 : tie.Need-returns-3
+returns-3 c = rw (c .enum-told2 .given .1)
+
 pub stage-numbers-spec : {M : Type 1} → statement M
-stage-numbers-spec = tie.close (tie.spec enum-told enum-known-stage returns returns-2)
+stage-numbers-spec = tie.close (tie.spec enum-told enum-known-stage enum-told-2 returns returns-2 returns-3)

@@ -65,11 +65,26 @@ same-length-3 : tie.Need-same-length-3
 same-length-3 c = search needs
 
 returns-3 : tie.Need-returns-3
-returns-3 c =
+returns-3 c = rw (c .before .before .before .before .before .if3 .taken) (refl, c .before .before .put-bytes3 .ensures)
+
+slice-aggregate-put-bytes-4 : tie.Need-slice-aggregate-put-bytes-4
+slice-aggregate-put-bytes-4 c = search needs
+
+put-bytes-requires-4 : tie.Need-put-bytes-requires-4
+put-bytes-requires-4 c κs = tt
+
+add-result-4 : tie.Need-add-result-4
+add-result-4 c = search needs
+
+same-length-4 : tie.Need-same-length-4
+same-length-4 c = search needs
+
+returns-4 : tie.Need-returns-4
+returns-4 c =
     let above = c .before .before .before .before .before in
-    let start = above .before .before .before in
-    let e = last-row (start .args .event) (omega (arith, above .before .if1 .left, above .if2 .left)) (start .pre .0) in
-    rw e (refl, c .before .before .put-bytes3 .ensures)
+    let start = above .before .before .before .before in
+    let e = last-row (start .args .event) (omega (arith, above .before .before .if1 .left, above .before .if2 .left, above .if3 .left)) (start .pre .0) in
+    rw e (refl, c .before .before .put-bytes4 .ensures)
 
 pub put-fields-spec : {M : Type 1} → statement M
 put-fields-spec =
@@ -91,4 +106,9 @@ put-fields-spec =
     put-bytes-requires-3
     add-result-3
     same-length-3
-    returns-3)
+    returns-3
+    slice-aggregate-put-bytes-4
+    put-bytes-requires-4
+    add-result-4
+    same-length-4
+    returns-4)

@@ -1,0 +1,4 @@
+pub mod Held
+pub mod Bits
+pub mod Line
+pub mod Breaks
