@@ -20,7 +20,7 @@ extern "C" {
 /* The numbers of the refusals; docs/SPECIFICATION.md has the order in which each call looks for them. */
 #define MODEM_ACCEPTED 0
 #define MODEM_NO_BAND 1       /* the band is not 1 or 2 */
-#define MODEM_BAD_STATE 2     /* a field of the state is out of its range */
+#define MODEM_BAD_STATE 2     /* a field of the state is out of its range, or the bands of a tap are not 1 and 2 */
 #define MODEM_TOO_MANY 3      /* too many characters or samples, or a block size of 0 or over MODEM_MOST_SAMPLES */
 #define MODEM_TOO_SHORT 4     /* a list has too few places, or too few numbers to add */
 #define MODEM_OUT_OF_RANGE 5  /* a sample or a disturbance is out of its range */
@@ -36,14 +36,20 @@ extern "C" {
 #define MODEM_LARGEST_SAMPLE 8191   /* either way */
 #define MODEM_DISTURBANCE 100       /* the most that a line may add to a sample, either way */
 
-/* The samples of a message of n characters, and the places that a block of n samples needs for its events. */
+/* The samples of a message of n characters, and the places that a block of n samples needs for its events: from a receiver, and
+ * from a tap. */
 #define MODEM_MESSAGE_SAMPLES(n) (2 * MODEM_IDLE_SAMPLES + MODEM_CHARACTER_SAMPLES * (n))
 #define MODEM_EVENT_PLACES(n) ((n) / 48 + 1)
+#define MODEM_TAP_PLACES(n) (2 * MODEM_EVENT_PLACES(n))
 
 /* An event below 256 is a character. */
 #define MODEM_NO_STOP 256
 #define MODEM_CARRIER_LOST 257
 #define MODEM_BREAK 258
+
+/* A tap gives an event as 1,000 times its band plus the event. These are the two parts. */
+#define MODEM_TAP_BAND(number) ((number) / 1000)
+#define MODEM_TAP_EVENT(number) ((number) % 1000)
 
 typedef struct {
     uint8_t number;
@@ -111,6 +117,30 @@ modem_receiver_opened modem_receiver_open(uint8_t band);
 /* Reads the next samples of a recording. Where it is cut into blocks makes no difference to the events. */
 modem_block modem_receiver_block(modem_receiver receiver, const int16_t *samples, size_t n,
                                  uint16_t *events, size_t places);
+
+/* The same, and with which sample of the block each event came: its index, counted from 0, goes to the place of `indices` that
+ * the event has in `events`. Each list needs MODEM_EVENT_PLACES(n). */
+modem_block modem_receiver_block_indexed(modem_receiver receiver, const int16_t *samples, size_t n,
+                                         uint16_t *events, size_t places, uint16_t *indices, size_t index_places);
+
+/* The tap, for a line that carries both bands: a receiver of either band, each with a state of its own. */
+typedef struct {
+    modem_receiver first;  /* of band 1 */
+    modem_receiver second; /* of band 2 */
+} modem_tap;
+
+typedef struct {
+    modem_tap tap;
+    uint8_t number;
+    size_t count; /* of events */
+} modem_tap_reading;
+
+/* The fresh receivers of bands 1 and 2. It is never refused. */
+modem_tap modem_tap_open(void);
+
+/* Both receivers read the same samples, each as it would by itself. The events come in the order of the samples; if one sample
+ * brings two, that of band 1 comes first. */
+modem_tap_reading modem_tap_block(modem_tap tap, const int16_t *samples, size_t n, uint16_t *events, size_t places);
 
 /* Sends a whole message from a fresh transmitter: leader, characters and trailer. The count is of samples. */
 modem_answer modem_message_send(uint8_t band, const uint8_t *bytes, size_t n, int16_t *out, size_t places);

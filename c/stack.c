@@ -21,7 +21,7 @@
 static unsigned char stack[1 << 20] __attribute__((aligned(4096)));
 static uint8_t message[CHARACTERS], text[1 << 16];
 static int16_t samples[SAMPLES], disturbance[SAMPLES], read_samples[1 << 16];
-static uint16_t events[SAMPLES / 48 + 1];
+static uint16_t events[MODEM_TAP_PLACES(SAMPLES)], indices[MODEM_EVENT_PLACES(SAMPLES)];
 static size_t text_bytes;
 static uint8_t refusals;
 
@@ -57,6 +57,22 @@ static void open_receiver(void)
 static void block(void)
 {
     refusals |= modem_receiver_block(modem_receiver_open(1).receiver, samples, BLOCK, events, sizeof events / sizeof *events).number;
+}
+
+static void block_indexed(void)
+{
+    refusals |= modem_receiver_block_indexed(modem_receiver_open(1).receiver, samples, BLOCK, events, sizeof events / sizeof *events,
+                                             indices, sizeof indices / sizeof *indices).number;
+}
+
+static void open_tap(void)
+{
+    refusals |= modem_tap_open().first.band != 1;
+}
+
+static void tap_block(void)
+{
+    refusals |= modem_tap_block(modem_tap_open(), samples, BLOCK, events, sizeof events / sizeof *events).number;
 }
 
 static void loopback(void)
@@ -121,6 +137,9 @@ int main(void)
         {"modem_message_send", send_message},
         {"modem_receiver_open", open_receiver},
         {"modem_receiver_block", block},
+        {"modem_receiver_block_indexed", block_indexed},
+        {"modem_tap_open", open_tap},
+        {"modem_tap_block", tap_block},
         {"modem_sheet_write", write_sheet},
         {"modem_sheet_read", read_sheet},
         {"modem_loopback", loopback},

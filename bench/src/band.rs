@@ -29,6 +29,9 @@ const GROWTH: Bar = Bar {
     most: 1.2,
 };
 
+/// A tap takes little longer than two receivers.
+const TAP: Bar = Bar::at_most(2.2);
+
 /// A loop of the reference.
 struct Peer {
     name: &'static str,
@@ -62,6 +65,8 @@ impl Band<'_> {
     pub fn measure(&self) -> bool {
         let Band { sines, band, .. } = *self;
         let sendings = LENGTHS.map(|characters| Recording::sending(sines, band, characters));
+        let both_bands = Recording::both_bands(sines, band, LENGTHS[1]);
+        let tapped = both_bands.tapped(sines);
         let kept = [
             self.sendings(&sendings),
             self.silence(&Recording::silence(sines, band, SAMPLES)),
@@ -77,6 +82,8 @@ impl Band<'_> {
             ),
             self.small_blocks(&sendings[0]),
             self.block_sizes(&sendings[1]),
+            self.tap(&both_bands, &tapped, BLOCK),
+            self.tap(&both_bands, &tapped, SMALL),
             self.calls("no samples", 0),
             self.calls("one sample", 1),
         ];
@@ -140,13 +147,22 @@ impl Band<'_> {
         self.print(&format!("{} characters", LENGTHS[1]), Unit::Speed, &entries)
     }
 
+    /// A receiver of this band and a tap, which reads both, on one line with both.
+    fn tap(&self, both_bands: &Recording, tapped: &Recording, size: usize) -> bool {
+        let name = format!("tap, blocks of {size}");
+        let tap = Entry::new(name, readers::tap(size), tapped).with(TAP);
+        let entries = [in_blocks(size, both_bands), tap];
+        self.print("both bands", Unit::Speed, &entries)
+    }
+
     /// What a call costs that has one sample or none. The samples are all 0, so
-    /// that either way there is no event.
+    /// that in any case there is no event.
     fn calls(&self, samples: &str, size: usize) -> bool {
         let silence = Recording::of(self.sines, self.band, vec![0; CALLS]);
         let library = Entry::new("library", readers::library(size), &silence);
         let peer = self.peer(ASKED_WINDOWS, &silence, size);
-        let entries = [library, peer.with(Bar::at_least(0.71))];
+        let tap = Entry::new("tap", readers::tap(size), &silence);
+        let entries = [library, peer.with(Bar::at_least(0.71)), tap.with(TAP)];
         self.print(&format!("calls of {samples}"), Unit::Call, &entries)
     }
 

@@ -1,6 +1,6 @@
 //! Measures the library's receiver beside other readers of the same recordings:
-//! three Rust loops that do the same, and spandsp and minimodem where they are
-//! installed. `run`, in this package's folder, builds and starts it.
+//! three Rust loops that do the same, the library's tap, and spandsp and minimodem
+//! where they are installed. `run`, in this package's folder, builds and starts it.
 //!
 //! It prints speeds, ratios and whether each ratio keeps its bar, and ends with
 //! status 1 if one does not. The gate does not run it, since a busy machine can
@@ -28,6 +28,9 @@ const BANDS: [u8; 2] = [1, 2];
 fn say_what_is_measured() {
     println!(
         "sendings of random characters; silence, noise, idle mark and breaks of {SAMPLES} samples (seed {SEED})"
+    );
+    println!(
+        "for the tap, a sending in each band on one line, both at two thirds of the amplitude"
     );
     println!(
         "each sample altered by -{DISTURBANCE} to {DISTURBANCE} at random; \

@@ -1,11 +1,13 @@
 //! What reads a recording, and the readers that take it block by block and
-//! answer as the specification says: the library, and the loops of the reference.
+//! answer as the specification says: the library's receiver and its tap, and the
+//! loops of the reference.
 
 use crate::clock::{self, Of};
 use crate::recording::Recording;
 use reference::library;
-use reference::receiver::{self, places_needed, Answer, State, MOST_SAMPLES};
+use reference::receiver::{self, Answer, State, MOST_SAMPLES};
 use reference::sine::Sines;
+use reference::tap;
 use std::time::Duration;
 
 /// The samples of one call, where nothing else is said: as many as there may be.
@@ -56,8 +58,9 @@ fn cut(samples: &[i16], size: usize) -> impl Iterator<Item = &[i16]> {
 impl<S, B: Fn(S, &[i16], &mut [u16]) -> (u8, usize, S)> Reader for Blocks<S, B> {
     /// The events must be those of the recording, so that no work is left out.
     fn read(&self, recording: &Recording) -> Reading {
-        // The last call still gets as many places as a whole block needs.
-        let places = recording.events.len() + places_needed(self.size);
+        // The last call still gets as many places as a whole block needs, also from
+        // a tap.
+        let places = recording.events.len() + tap::places_needed(self.size);
         let mut events = vec![u16::MAX; places];
         let (time, count) = clock::timed(Of::ThisProcess, || {
             self.read_all(recording.band, &recording.samples, &mut events)
@@ -77,6 +80,18 @@ pub fn library(size: usize) -> impl Reader {
         open: library::receiver_open,
         block: |state, samples: &[i16], events: &mut [u16]| {
             let answer = library::receiver_block(state, samples, events);
+            (answer.number, answer.count, answer.state)
+        },
+        size,
+    }
+}
+
+/// Reads both bands, whichever the recording's is.
+pub fn tap(size: usize) -> impl Reader {
+    Blocks {
+        open: |_| (0, library::tap_open()),
+        block: |tap, samples: &[i16], events: &mut [u16]| {
+            let answer = library::tap_block(tap, samples, events);
             (answer.number, answer.count, answer.state)
         },
         size,

@@ -1,8 +1,9 @@
 //! The recordings that are read.
 
 use reference::random::Random;
-use reference::receiver::{self, places_needed, BREAK, LARGEST_SAMPLE, MOST_SAMPLES};
+use reference::receiver::{self, Answer, BREAK, LARGEST_SAMPLE, MOST_SAMPLES};
 use reference::sine::Sines;
+use reference::tap;
 use reference::transmitter::{self, STEPS};
 
 pub const SEED: u64 = 20;
@@ -77,11 +78,41 @@ impl Recording {
         Recording::of(sines, band, samples.collect())
     }
 
+    /// A sending of random characters in each of bands 1 and 2 on one line, each at
+    /// two thirds of its amplitude, so that all samples are in range when they are
+    /// altered likewise.
+    pub fn both_bands(sines: &Sines, band: u8, characters: usize) -> Recording {
+        let mut random = Random::new(SEED);
+        let [first, second] =
+            [1, 2].map(|band| transmitter::sending(sines, band, &random.bytes(characters)));
+        let both = first.iter().zip(&second);
+        let sum = both.map(|(&first, &second)| first / 3 * 2 + second / 3 * 2);
+        let samples = disturbed(sum.collect(), random);
+        Recording::of(sines, band, samples)
+    }
+
+    /// The same samples, with the events of a tap.
+    pub fn tapped(&self, sines: &Sines) -> Recording {
+        let samples = self.samples.clone();
+        let block =
+            |state, samples: &[i16], events: &mut [u16]| tap::block(sines, state, samples, events);
+        Recording {
+            band: self.band,
+            events: step_by_step(tap::open(), &samples, block),
+            samples,
+            message: None,
+        }
+    }
+
     /// These samples, which hold no message to count.
     pub fn of(sines: &Sines, band: u8, samples: Vec<i16>) -> Recording {
+        let (_, fresh) = receiver::open(band);
+        let block = |state, samples: &[i16], events: &mut [u16]| {
+            receiver::block(sines, state, samples, events)
+        };
         Recording {
             band,
-            events: step_by_step(sines, band, &samples),
+            events: step_by_step(fresh, &samples, block),
             samples,
             message: None,
         }
@@ -121,13 +152,17 @@ fn tone(sines: &Sines, band: u8, bit: usize, length: usize) -> Vec<i16> {
     (0..length).map(|i| sines.s(i * step)).collect()
 }
 
-/// The events of the receiver that weighs every window and is not measured.
-fn step_by_step(sines: &Sines, band: u8, samples: &[i16]) -> Vec<u16> {
-    let (_, mut state) = receiver::open(band);
-    let mut places = vec![0; places_needed(MOST_SAMPLES)];
+/// The events of the receiver or the tap that weighs every window and is not
+/// measured.
+fn step_by_step<S>(
+    mut state: S,
+    samples: &[i16],
+    block: impl Fn(S, &[i16], &mut [u16]) -> Answer<S>,
+) -> Vec<u16> {
+    let mut places = vec![0; tap::places_needed(MOST_SAMPLES)];
     let mut events = Vec::new();
     for samples in samples.chunks(MOST_SAMPLES) {
-        let answer = receiver::block(sines, state, samples, &mut places);
+        let answer = block(state, samples, &mut places);
         assert_eq!(answer.number, 0);
         events.extend(&places[..answer.count]);
         state = answer.state;

@@ -15,15 +15,21 @@ impl Bar {
         let most = f64::INFINITY;
         Bar { least, most }
     }
+
+    pub const fn at_most(most: f64) -> Bar {
+        Bar { least: 0.0, most }
+    }
 }
 
 impl fmt::Display for Bar {
     fn fmt(&self, out: &mut fmt::Formatter) -> fmt::Result {
         let Bar { least, most } = self;
-        out.pad(&if most.is_finite() {
-            format!("{least:.2} to {most:.2}")
-        } else {
+        out.pad(&if most.is_infinite() {
             format!("at least {least}")
+        } else if *least == 0.0 {
+            format!("at most {most}")
+        } else {
+            format!("{least:.2} to {most:.2}")
         })
     }
 }

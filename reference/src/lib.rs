@@ -1,6 +1,6 @@
 //! A second modem to compare the first with: the sine, the transmitter, the
-//! receiver, the sheet and the two programs, written from the specification and from
-//! none of the product's code.
+//! receiver, the tap, the sheet and the two programs, written from the specification
+//! and from none of the product's code.
 //! Decision 16 of `docs/DECISIONS.md` says what else was known.
 //! The tests in `tests/` compare it with the static library and the programs.
 //! `in_place`, `shifted_window` and `asked_windows` are the receiver again,
@@ -14,6 +14,7 @@
 pub mod asked_windows;
 pub mod disturbance;
 pub mod in_place;
+pub mod indexed;
 pub mod library;
 pub mod must_fail;
 mod natural;
@@ -24,4 +25,5 @@ pub mod receiver;
 pub mod sheet;
 pub mod shifted_window;
 pub mod sine;
+pub mod tap;
 pub mod transmitter;

@@ -27,6 +27,23 @@ extern "C" {
         events: *mut u16,
         places: usize,
     ) -> BlockAnswer;
+    fn modem_receiver_block_indexed(
+        receiver: Numbers,
+        samples: *const i16,
+        n: usize,
+        events: *mut u16,
+        places: usize,
+        indices: *mut u16,
+        index_places: usize,
+    ) -> BlockAnswer;
+    fn modem_tap_open() -> Tap;
+    fn modem_tap_block(
+        tap: Tap,
+        samples: *const i16,
+        n: usize,
+        events: *mut u16,
+        places: usize,
+    ) -> BlockAnswer<Tap>;
     fn modem_message_send(
         band: u8,
         bytes: *const u8,
@@ -130,6 +147,47 @@ pub fn receiver_block_lent(state: Numbers, samples: &[i16], events: &mut [u16]) 
     unsafe {
         modem_test_block_lent(
             state,
+            samples.as_ptr(),
+            samples.len(),
+            events.as_mut_ptr(),
+            events.len(),
+        )
+    }
+}
+
+/// The same as `receiver_block`, and with which sample of the block each event came.
+pub fn receiver_block_indexed(
+    state: Numbers,
+    samples: &[i16],
+    events: &mut [u16],
+    indices: &mut [u16],
+) -> BlockAnswer {
+    // SAFETY: the slices are borrowed for the call and apart, and each length is
+    // that of the slice before it.
+    unsafe {
+        modem_receiver_block_indexed(
+            state,
+            samples.as_ptr(),
+            samples.len(),
+            events.as_mut_ptr(),
+            events.len(),
+            indices.as_mut_ptr(),
+            indices.len(),
+        )
+    }
+}
+
+pub fn tap_open() -> Tap {
+    // SAFETY: takes nothing and returns plain numbers.
+    unsafe { modem_tap_open() }
+}
+
+pub fn tap_block(tap: Tap, samples: &[i16], events: &mut [u16]) -> BlockAnswer<Tap> {
+    // SAFETY: the slices are borrowed for the call and apart, and each length is
+    // that of the slice before it.
+    unsafe {
+        modem_tap_block(
+            tap,
             samples.as_ptr(),
             samples.len(),
             events.as_mut_ptr(),

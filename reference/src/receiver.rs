@@ -38,10 +38,10 @@ pub struct State {
 
 /// What a call returns besides the events it leaves in the lent list.
 #[derive(Clone, Copy, Debug, PartialEq, Eq)]
-pub struct Answer {
+pub struct Answer<S = State> {
     pub number: u8,
     pub count: usize,
-    pub state: State,
+    pub state: S,
 }
 
 /// The number and the fresh state; band 1 stands in for a refused band.
@@ -93,24 +93,38 @@ impl State {
             && self.run <= FULL_RUN
             && self.stage.is_in_range()
     }
+
+    /// Space and mark.
+    pub(crate) fn tones(&self, sines: &Sines) -> [Tone; 2] {
+        STEPS[usize::from(self.band) - 1].map(|step| Tone::new(sines, step))
+    }
 }
 
 /// Reads a block and writes its events to the front of `events`.
 pub fn block(sines: &Sines, state: State, samples: &[i16], events: &mut [u16]) -> Answer {
-    if !state.is_in_range() {
-        refused(2, state)
-    } else if samples.len() > MOST_SAMPLES {
-        refused(3, state)
-    } else if !samples.iter().all(|&sample| is_sample(sample)) {
-        refused(5, state)
-    } else if events.len() < places_needed(samples.len()) {
-        refused(4, state)
-    } else {
-        read(sines, state, samples, events)
+    let has_places = events.len() >= places_needed(samples.len());
+    match tested(state.is_in_range(), samples, has_places) {
+        0 => read(sines, state, samples, events),
+        number => refused(number, state),
     }
 }
 
-pub(crate) fn refused(number: u8, state: State) -> Answer {
+/// Why a block is refused, or 0 if it is not, in the order of the tests.
+pub(crate) fn tested(is_in_range: bool, samples: &[i16], has_places: bool) -> u8 {
+    if !is_in_range {
+        2
+    } else if samples.len() > MOST_SAMPLES {
+        3
+    } else if !samples.iter().all(|&sample| is_sample(sample)) {
+        5
+    } else if !has_places {
+        4
+    } else {
+        0
+    }
+}
+
+pub(crate) fn refused<S>(number: u8, state: S) -> Answer<S> {
     Answer {
         number,
         count: 0,
@@ -119,7 +133,7 @@ pub(crate) fn refused(number: u8, state: State) -> Answer {
 }
 
 fn read(sines: &Sines, mut state: State, samples: &[i16], events: &mut [u16]) -> Answer {
-    let tones = STEPS[usize::from(state.band) - 1].map(|step| Tone::new(sines, step));
+    let tones = state.tones(sines);
     let mut count = 0;
     for &sample in samples {
         if let Some(event) = state.take(&tones, sample) {
@@ -168,7 +182,7 @@ fn weighed(window: &[i16; WINDOW], weights: &[i64; WINDOW]) -> i64 {
 
 impl State {
     /// Steps 1 to 5 for one sample.
-    fn take(&mut self, tones: &[Tone; 2], sample: i16) -> Option<u16> {
+    pub(crate) fn take(&mut self, tones: &[Tone; 2], sample: i16) -> Option<u16> {
         // 1. The sample enters and the oldest leaves.
         self.window.copy_within(1.., 0);
         self.window[WINDOW - 1] = sample;

@@ -2,6 +2,7 @@
 //! from Rust, and keeps to the lists that it is lent.
 
 use crate::common::c::{compiled, file, has_sanitizers, has_valgrind, printed, Linked, SANITIZERS};
+use crate::common::recording::{mixed, sending};
 use reference::library::{self, Numbers};
 use reference::receiver::places_needed;
 use reference::transmitter::Answer;
@@ -62,6 +63,37 @@ fn receiver_calls(band: u8, block: &[i16], fewer: usize) -> String {
     lines
 }
 
+fn indexed_calls(band: u8, block: &[i16]) -> String {
+    let (_, state) = library::receiver_open(band);
+    let exact = places_needed(block.len());
+    let mut lines = String::new();
+    for fewer in [[0, 0], [1, 0], [0, 1]] {
+        let [mut list, mut indices] = fewer.map(|fewer| vec![0x7777; exact - fewer]);
+        let found = library::receiver_block_indexed(state, block, &mut list, &mut indices);
+        lines += &answer("indexed", found.number, found.count);
+        lines += &(receiver(&found.state) + &events(&list) + &events(&indices));
+    }
+    lines
+}
+
+fn tap_calls(fewer: usize) -> String {
+    let [first, second] = [1, 2].map(|band| sending(band, &BYTES));
+    let line = mixed(&first, &second);
+    let mut tap = library::tap_open();
+    let mut lines = String::new();
+    for _ in 0..2 {
+        let mut list = vec![0x7777; 2 * places_needed(line.len()) - fewer];
+        let found = library::tap_block(tap, &line, &mut list);
+        tap = found.state;
+        lines += &answer("tap", found.number, found.count);
+        lines += &(receiver(&tap.first) + &receiver(&tap.second) + &events(&list));
+        if let Some(event) = list[..found.count].first() {
+            lines += &format!("  band {} event {}\n", event / 1_000, event % 1_000);
+        }
+    }
+    lines
+}
+
 fn sheet_calls(band: u8, block: &[i16], fewer: usize) -> String {
     let mut text = vec![0; 65_536];
     let written = library::sheet_write(band, block, &mut text);
@@ -78,6 +110,7 @@ fn whole_calls(band: u8, fewer: usize) -> String {
     let message = library::message_send(band, &BYTES, &mut out);
     let mut lines = answer("message", message.number, message.count) + &samples(&out);
     lines += &receiver_calls(band, &out, fewer);
+    lines += &indexed_calls(band, &out);
     lines += &sheet_calls(band, &out, fewer);
     let sign = |place| if place % 3 == 0 { 100 } else { -100 };
     let added: Vec<i16> = (0..count).map(sign).collect();
@@ -89,9 +122,10 @@ fn whole_calls(band: u8, fewer: usize) -> String {
 
 fn expected() -> String {
     let calls = |band, fewer| transmitter_calls(band, fewer) + &whole_calls(band, fewer);
-    (0..=3)
+    let lines: String = (0..=3)
         .map(|band| calls(band, 0) + &calls(band, 1))
-        .collect()
+        .collect();
+    lines + &tap_calls(0) + &tap_calls(1)
 }
 
 fn program(name: &str, more: &[&str], linked: Linked) -> PathBuf {

@@ -50,7 +50,7 @@ fn a_warning_stops_the_compilers() {
 #[test]
 fn it_declares_what_the_libraries_have() {
     let declared = declared_functions();
-    assert_eq!(declared.len(), 9, "{declared:?}");
+    assert_eq!(declared.len(), 12, "{declared:?}");
     let folder = library();
     let archive = symbols(&["-g", "--defined-only", &format!("{folder}/libmodem.a")]);
     assert_eq!(archive, declared);
@@ -59,7 +59,7 @@ fn it_declares_what_the_libraries_have() {
 }
 
 /// A number written as a C program would use it, and what it is.
-const NUMBERS: [(&str, u32); 28] = [
+const NUMBERS: [(&str, u32); 36] = [
     ("MODEM_ACCEPTED", 0),
     ("MODEM_NO_BAND", 1),
     ("MODEM_BAD_STATE", 2),
@@ -81,9 +81,17 @@ const NUMBERS: [(&str, u32); 28] = [
     ("MODEM_EVENT_PLACES(47)", 1),
     ("2 * MODEM_EVENT_PLACES(40 + 8)", 2 * 2),
     ("MODEM_EVENT_PLACES(MODEM_MOST_SAMPLES)", 342),
+    ("MODEM_TAP_PLACES(47)", 2),
+    ("2 * MODEM_TAP_PLACES(40 + 8)", 2 * 4),
+    ("MODEM_TAP_PLACES(MODEM_MOST_SAMPLES)", 684),
+    ("8 / MODEM_TAP_PLACES(48)", 2),
     ("MODEM_NO_STOP", 256),
     ("MODEM_CARRIER_LOST", 257),
     ("MODEM_BREAK", 258),
+    ("MODEM_TAP_BAND(1258)", 1),
+    ("MODEM_TAP_EVENT(1258)", 258),
+    ("4 / MODEM_TAP_BAND(1000 + 1065)", 2),
+    ("2 * MODEM_TAP_EVENT(1000 + 1065)", 2 * 65),
     ("MODEM_SEARCHING", 0),
     ("MODEM_WAITING", 1),
     ("MODEM_HELD", 2),

@@ -2,7 +2,8 @@
 
 use crate::common::c::{compiled, header_code, printed, written, Linked};
 use reference::library::{
-    BlockAnswer, CallAnswer, Numbers, ReceiverOpened, Sent, Sheet, Transmitter, TransmitterOpened,
+    BlockAnswer, CallAnswer, Numbers, ReceiverOpened, Sent, Sheet, Tap, Transmitter,
+    TransmitterOpened,
 };
 use std::mem::{align_of, offset_of, size_of};
 
@@ -86,6 +87,21 @@ fn layouts() -> Vec<Layout> {
             modem_block,
             BlockAnswer {
                 receiver: state,
+                number: number,
+                count: count
+            }
+        ),
+        layout!(
+            modem_tap,
+            Tap {
+                first: first,
+                second: second
+            }
+        ),
+        layout!(
+            modem_tap_reading,
+            BlockAnswer<Tap> {
+                tap: state,
                 number: number,
                 count: count
             }

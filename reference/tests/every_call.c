@@ -90,6 +90,49 @@ static void receiver_calls(uint8_t band, const int16_t *samples, size_t count, s
     }
 }
 
+/* Three times the same block: lists of exactly the places needed, and either list one place shorter. */
+static void indexed_calls(uint8_t band, const int16_t *samples, size_t count)
+{
+    modem_receiver receiver = modem_receiver_open(band).receiver;
+    for (size_t i = 0; i < 3; i++) {
+        size_t all = MODEM_EVENT_PLACES(count) - (i == 1), index_places = MODEM_EVENT_PLACES(count) - (i == 2);
+        uint16_t *events = places(all, sizeof *events), *indices = places(index_places, sizeof *indices);
+        modem_block block = modem_receiver_block_indexed(receiver, samples, count, events, all, indices, index_places);
+        put_answer("indexed", block.number, block.count);
+        put_receiver(block.receiver);
+        put_events(events, all);
+        put_events(indices, index_places);
+        free(events);
+        free(indices);
+    }
+}
+
+/* Both bands on one line, read twice. */
+static void tap_calls(const uint8_t *bytes, size_t fewer)
+{
+    size_t count = MODEM_MESSAGE_SAMPLES(BYTES), all = MODEM_TAP_PLACES(count) - fewer;
+    int16_t *line = places(count, sizeof *line), *second = places(count, sizeof *second);
+    modem_tap tap = modem_tap_open();
+    modem_message_send(1, bytes, BYTES, line, count);
+    modem_message_send(2, bytes, BYTES, second, count);
+    for (size_t i = 0; i < count; i++)
+        line[i] = (int16_t)((line[i] + second[i]) * 2 / 3);
+    for (int i = 0; i < 2; i++) {
+        uint16_t *events = places(all, sizeof *events);
+        modem_tap_reading reading = modem_tap_block(tap, line, count, events, all);
+        put_answer("tap", reading.number, reading.count);
+        put_receiver(reading.tap.first);
+        put_receiver(reading.tap.second);
+        put_events(events, all);
+        if (reading.count > 0)
+            printf("  band %d event %d\n", MODEM_TAP_BAND(events[0]), MODEM_TAP_EVENT(events[0]));
+        free(events);
+        tap = reading.tap;
+    }
+    free(line);
+    free(second);
+}
+
 static void sheet_calls(uint8_t band, const int16_t *samples, size_t count, size_t fewer)
 {
     uint8_t *text = places(MODEM_MOST_SHEET_BYTES, 1);
@@ -118,6 +161,7 @@ static void whole_calls(uint8_t band, const uint8_t *bytes, size_t fewer)
     put_answer("message", answer.number, answer.count);
     put_samples(samples, all);
     receiver_calls(band, samples, all, fewer);
+    indexed_calls(band, samples, all);
     sheet_calls(band, samples, all, fewer);
     for (size_t i = 0; i < count; i++)
         added[i] = i % 3 == 0 ? MODEM_DISTURBANCE : -MODEM_DISTURBANCE;
@@ -140,6 +184,8 @@ int main(void)
             transmitter_calls(band, bytes, fewer);
             whole_calls(band, bytes, fewer);
         }
+    for (size_t fewer = 0; fewer <= 1; fewer++)
+        tap_calls(bytes, fewer);
     free(bytes);
     return 0;
 }

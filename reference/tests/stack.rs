@@ -33,7 +33,7 @@ fn each_call_runs_in_16_kilobytes() {
         last.parse::<usize>().expect("a number")
     });
     let bytes: Vec<usize> = bytes.collect();
-    assert_eq!(bytes.len(), 10, "{lines}");
+    assert_eq!(bytes.len(), 13, "{lines}");
     assert!(bytes.iter().all(|&bytes| bytes <= 16_384), "{lines}");
     // A block has the weights and its ends there, so something was measured.
     assert!(bytes.iter().any(|&bytes| bytes > 2_048), "{lines}");

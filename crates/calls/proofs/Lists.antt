@@ -23,7 +23,7 @@ pub one-keeps : {A : Type 0} → Keeps (oneList {A = A})
 one-keeps = record { back = λ xs lent. take-append-seam xs (drop (length xs) lent) }
 
 module _ {A B : Type 0} where
-  paired-sides : (xs : List (A × B)) → paired (map (λ (x : A × B). x .0) xs) (map (λ (x : A × B). x .1) xs) ≡ xs
+  pub paired-sides : (xs : List (A × B)) → paired (map (λ (x : A × B). x .0) xs) (map (λ (x : A × B). x .1) xs) ≡ xs
   unfolding paired
   paired-sides [] = refl
   paired-sides (x ∷ xs) = ap (λ (l : List (A × B)). x ∷ l) (paired-sides xs)

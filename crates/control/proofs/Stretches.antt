@@ -10,14 +10,15 @@ use borrow.Author.Tests.{ne-eqb}
 use lib.Dec.{eqb}
 use lib.ListN.{length}
 use Rattle.integers.proofs.Tests.{cond-case}
-use Rattle.calls.specs.Runs.{after, gives}
+use Rattle.calls.specs.Runs.{after, indexed, withIndex}
 use Rattle.calls.proofs.Runs.{run-laws}
+use Rattle.calls.proofs.Indexed.{indexed-append}
 use Rattle.control.specs.declared.Decision.{Decision}
 use Rattle.control.specs.declared.Next.{Next}
 use Rattle.control.specs.declared.Stage.{Stage}
 use Rattle.control.specs.declared.Stage.the-variants.{Waiting}
 use Rattle.control.specs.declared.Control.{Control}
-use Rattle.control.specs.Rules.{numbers, quiet, runAfter, nextOf, controlAfter, reported, follow, reports}
+use Rattle.control.specs.Rules.{numbers, quiet, runAfter, nextOf, controlAfter, reported, follow, reportsFrom}
 use Rattle.control.specs.AsCoded.{isFound, runOver, NoneFound}
 use Rattle.control.proofs.Ranges.{run-kept}
 use Rattle.control.proofs.Rules.{wait-more, IsSearch, control-after, events-reported}
@@ -74,16 +75,16 @@ module _ (space : Bool) (d : Decision) where
 
 -- ---- where a list of decisions leads
 
--- from c to a run and a stage, with these events
-pub record Leads (c : Control) (ds : List Decision) (run : ℕ) (stage : Stage) (events : List ℕ) : Type 0 where
+-- from c to a run and a stage, with these events, where the first decision has the index k
+pub record Leads (k : ℕ) (c : Control) (ds : List Decision) (run : ℕ) (stage : Stage) (events : List (ℕ × ℕ)) : Type 0 where
   pub control : follow c ds ≡ record { run = run; stage = stage }
-  pub told : reports c ds ≡ events
+  pub told : reportsFrom k c ds ≡ events
 
--- one decision behind others
-module _ {c : Control} {ds : List Decision} {run : ℕ} {stage : Stage} where
-  pub lead-more : (d : Decision) (n : Next) → n ≡ nextOf stage (runAfter run (d .good)) d → Leads c ds run stage []
-      → Leads c (ds ++ d ∷ []) (runAfter run (d .good)) (n .stage) (numbers (n .event))
-  unfolding after gives
+-- one decision behind others that tell nothing
+module _ {k : ℕ} {c : Control} {ds : List Decision} {run : ℕ} {stage : Stage} where
+  pub lead-more : (d : Decision) (n : Next) → n ≡ nextOf stage (runAfter run (d .good)) d → Leads k c ds run stage []
+      → Leads k c (ds ++ d ∷ []) (runAfter run (d .good)) (n .stage) (withIndex (k + length ds) (numbers (n .event)))
+  unfolding after indexed
   lead-more d n en l =
       let here : Control = record { run = run; stage = stage } in
       let run′ : ℕ = runAfter run (d .good) in
@@ -93,44 +94,46 @@ module _ {c : Control} {ds : List Decision} {run : ℕ} {stage : Stage} where
             ∙ ap (λ (u : Control). controlAfter u d) (l .control)
             ∙ control-after here d run′ n refl en;
         told =
-            run-laws controlAfter reported .gives-append c ds (d ∷ [])
-            ∙ (λ i. l .told i ++ (reported (l .control i) d ++ []))
-            ∙ ap (λ (e : List ℕ). e ++ []) (events-reported here d run′ n refl en)
-            ∙ append-nil (numbers (n .event));
+            indexed-append controlAfter reported k c ds (d ∷ [])
+            ∙ (λ i. l .told i ++ (withIndex (k + length ds) (reported (l .control i) d) ++ []))
+            ∙ append-nil (withIndex (k + length ds) (reported here d))
+            ∙ ap (withIndex (k + length ds)) (events-reported here d run′ n refl en);
       }
 
--- one decision before others
-lead-next : (run : ℕ) (stage stage′ : Stage) (d : Decision) (ds : List Decision) {run″ : ℕ} {stage″ : Stage} {events : List ℕ}
-    → nextOf stage (runAfter run (d .good)) d ≡ quiet stage′ → Leads (record { run = runAfter run (d .good); stage = stage′ }) ds run″ stage″ events
-    → Leads (record { run = run; stage = stage }) (d ∷ ds) run″ stage″ events
-unfolding after gives
-lead-next run stage stage′ d ds e l =
+-- one decision before others, which tells nothing
+lead-next : (k run : ℕ) (stage stage′ : Stage) (d : Decision) (ds : List Decision) {run″ : ℕ} {stage″ : Stage} {events : List (ℕ × ℕ)}
+    → nextOf stage (runAfter run (d .good)) d ≡ quiet stage′
+    → Leads (k + 1) (record { run = runAfter run (d .good); stage = stage′ }) ds run″ stage″ events
+    → Leads k (record { run = run; stage = stage }) (d ∷ ds) run″ stage″ events
+unfolding after indexed
+lead-next k run stage stage′ d ds e l =
     let here : Control = record { run = run; stage = stage } in
     let run′ : ℕ = runAfter run (d .good) in
     record {
       control = ap (λ (u : Control). follow u ds) (control-after here d run′ (quiet stage′) refl (sym e)) ∙ l .control;
       told =
-          (λ i. events-reported here d run′ (quiet stage′) refl (sym e) i ++ reports (control-after here d run′ (quiet stage′) refl (sym e) i) ds)
+          (λ i. withIndex k (events-reported here d run′ (quiet stage′) refl (sym e) i)
+          ++ reportsFrom (k + 1) (control-after here d run′ (quiet stage′) refl (sym e) i) ds)
           ∙ l .told;
     }
 
 -- a wait, before its last decision
-pub waits : (run wait slot byte : ℕ) (ds : List Decision) → length ds < wait
-    → Leads (record { run = run; stage = Waiting wait slot byte }) ds (runOver run ds) (Waiting (wait - length ds) slot byte) []
-unfolding after gives
-waits run wait slot byte [] h =
+pub waits : (k run wait slot byte : ℕ) (ds : List Decision) → length ds < wait
+    → Leads k (record { run = run; stage = Waiting wait slot byte }) ds (runOver run ds) (Waiting (wait - length ds) slot byte) []
+unfolding after indexed
+waits k run wait slot byte [] h =
     let e : wait - 0 ≡ wait = omega arith in
     rw e (record { control = refl; told = refl })
-waits run wait slot byte (d ∷ ds) h =
+waits k run wait slot byte (d ∷ ds) h =
     let e : wait - suc (length ds) ≡ wait - 1 - length ds = omega arith in
     rw e
-    (lead-next run (Waiting wait slot byte) (Waiting (wait - 1) slot byte) d ds (wait-more (runAfter run (d .good)) d wait slot byte (omega arith))
-    (waits (runAfter run (d .good)) (wait - 1) slot byte ds (omega arith)))
+    (lead-next k run (Waiting wait slot byte) (Waiting (wait - 1) slot byte) d ds (wait-more (runAfter run (d .good)) d wait slot byte (omega arith))
+    (waits (k + 1) (runAfter run (d .good)) (wait - 1) slot byte ds (omega arith)))
 
 -- a search that none of them ends
-module _ {space : Bool} {stage next : Stage} (k : IsSearch space stage next) where
-  pub searches : (run : ℕ) (ds : List Decision) → NoneFound space run ds → Leads (record { run = run; stage = stage }) ds (runOver run ds) stage []
-  unfolding after gives NoneFound
-  searches run [] h = record { control = refl; told = refl }
-  searches run (d ∷ ds) h =
-      lead-next run stage stage d ds (k .step (runAfter run (d .good)) d ∙ rw (h .0)) (searches (runAfter run (d .good)) ds (h .1))
+module _ {space : Bool} {stage next : Stage} (s : IsSearch space stage next) where
+  pub searches : (k run : ℕ) (ds : List Decision) → NoneFound space run ds → Leads k (record { run = run; stage = stage }) ds (runOver run ds) stage []
+  unfolding after indexed NoneFound
+  searches k run [] h = record { control = refl; told = refl }
+  searches k run (d ∷ ds) h =
+      lead-next k run stage stage d ds (s .step (runAfter run (d .good)) d ∙ rw (h .0)) (searches (k + 1) (runAfter run (d .good)) ds (h .1))

@@ -3,18 +3,20 @@
 use mathlib.Core.Path.{_≡_, refl, sym, ap, _∙_}
 use mathlib.Core.Bool.{Bool, true, false, cond, not}
 use mathlib.Core.List.{List}
-use Prim.Native.Nat.{ℕ}
+use Prim.Native.Nat.{ℕ, min}
 use native.Mathlib.Omega.{arith}
 use lib.IntN.{ℤ}
 use lib.ListN.{length, drop}
 use lib.Seq.{take-append-seam}
 use Rattle.calls.specs.Refusals.{firstOf, none, this, behind}
-use Rattle.calls.specs.Outcome.{accepted}
+use Rattle.calls.specs.Outcome.{acceptedIn, oneList, bothIn, accepted}
 use Rattle.tones.specs.Bands.{isBand}
 use Rattle.transmitter.specs.Samples.{idleBits, charactersBits}
 use Rattle.transmitter.specs.Calls as transmitter
-use Rattle.receiver.specs.Step.{stateAfter, eventsAfter}
+use Rattle.receiver.specs.Step.{stateAfter, eventsAfter, indexedAfter}
 use Rattle.receiver.specs.Calls as receiver
+use Rattle.tap.specs.Step as tap-step
+use Rattle.tap.specs.Calls as tap
 use Rattle.sheet.specs.Text.{sheetOf}
 use Rattle.sheet.specs.Parse.{bandIn, samplesOf}
 use Rattle.sheet.specs.Calls as sheet
@@ -34,7 +36,7 @@ opens fresh band = go (isBand band) refl
     go false e = record { first = this (ap not e); refusal = λ h. (refl, refl); done = λ n. absurd (omega arith) }
 
 pub demand-1 : Demand1
-unfolding transmitter.openOf receiver.openOf transmitter.idleOf transmitter.charactersOf receiver.blockOf sheet.readOf sheet.writeOf
+unfolding transmitter.openOf receiver.openOf transmitter.idleOf transmitter.charactersOf receiver.blockOf receiver.indexedOf tap.blockOf sheet.readOf sheet.writeOf
 demand-1 =
     record {
       transmitter-opening = opens transmitter.fresh;
@@ -46,6 +48,12 @@ demand-1 =
       block = λ s c.
           answers _ (receiver.blockTests s (c .samples) (length (c .lent))) s (c .lent) _
           (accepted (stateAfter s (c .samples)) (eventsAfter s (c .samples)) (c .lent)) refl refl (λ e. refl);
+      block-indexed = λ s c.
+          answers _ (receiver.blockTests s (c .samples) (min (length (c .lent)) (length (c .indices)))) s (c .lent, c .indices) _
+          (acceptedIn (bothIn oneList oneList) (stateAfter s (c .samples)) (indexedAfter s (c .samples)) (c .lent, c .indices)) refl refl (λ e. refl);
+      tap-block = λ t c.
+          answers _ (tap.blockTests t (c .samples) (length (c .lent))) t (c .lent) _
+          (accepted (tap-step.stateAfter t (c .samples)) (tap-step.eventsAfter t (c .samples)) (c .lent)) refl refl (λ e. refl);
       sheet-reading = λ text lent.
           answers _ (sheet.readTests text (length lent)) 0 lent _ (accepted (bandIn text) (samplesOf text) lent) refl refl (whole text lent);
       sheet-writing = λ band samples lent.

@@ -4,7 +4,9 @@ use Rattle.sine.proofs.Rule.{S-rule, S-unique, S-only}
 use Rattle.transmitter.proofs.Lists.{continuous}
 use Rattle.transmitter.proofs.Examples.{examples}
 use Rattle.receiver.proofs.Lists.{one-reading, two-blocks}
+use Rattle.receiver.proofs.Indexed.{indexed-reading}
 use Rattle.receiving.proofs.Stored.{state-stored}
+use Rattle.tap.proofs.Lists.{both-directions}
 use Rattle.demands.specs.Demand2.{Demand2}
 
 pub demand-2 : Demand2
@@ -16,6 +18,9 @@ demand-2 =
       samples = continuous;
       events = one-reading;
       joined-blocks = two-blocks;
+      indices = indexed-reading;
+      both-directions = both-directions;
       stored = state-stored;
+      tap-stored = λ t i. record { first = state-stored (t .first) i; second = state-stored (t .second) i };
       examples = examples;
     }

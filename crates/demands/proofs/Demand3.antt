@@ -2,10 +2,21 @@
 -- Assumes nothing.
 use Rattle.promise.proofs.Promise.{all-read}
 use Rattle.promise.proofs.Possible.{not-vacuous}
+use Rattle.tapped.proofs.Tapped.{read-on-tap, taps-possible, read-with-indices}
 use Rattle.modulator.proofs.Cut as modulate
 use Rattle.demodulator.proofs.Cut as demodulate
 use Rattle.read_back.proofs.ReadBack.{read-back}
 use Rattle.demands.specs.Demand3.{Demand3}
 
 pub demand-3 : Demand3
-demand-3 = record { promise = all-read; possible = not-vacuous; programs = read-back; sending-cut = modulate.cut-input; reading-cut = demodulate.cut-input }
+demand-3 =
+    record {
+      promise = all-read;
+      possible = not-vacuous;
+      on-tap = read-on-tap;
+      taps-possible = taps-possible;
+      with-indices = read-with-indices;
+      programs = read-back;
+      sending-cut = modulate.cut-input;
+      reading-cut = demodulate.cut-input;
+    }

@@ -13,6 +13,9 @@ use Rattle.transmitter.specs.Lists as sending
 use Rattle.receiver.specs.declared.Receiver.{Receiver}
 use Rattle.receiver.specs.Lists as reading
 use Rattle.receiving.specs.Numbers.{numbersOf, receiverOf}
+use Rattle.tap.specs.declared.Tap.{Tap}
+use Rattle.tap.specs.Lists as tapping
+use Rattle.tapping.specs.Numbers.{tapNumbers, tapOf}
 
 pub record Demand2 : Type 0 where
   -- S has the rule of the sine; at each phase of the first quarter the rule admits S and nothing else, and no other function has it
@@ -24,7 +27,12 @@ pub record Demand2 : Type 0 where
   -- over every list of block calls likewise, the events are those of the step rule over all samples read
   pub events : (s : Receiver) (calls : List reading.Call) → reading.OneReading s calls
   pub joined-blocks : (s : Receiver) (one two : reading.Call) (lent : List ℕ) → reading.TwoBlocks s one two lent
+  -- with indices, each is that of the sample which brings the event
+  pub indices : (s : Receiver) (calls : List reading.IndexedCall) → reading.IndexedReading s calls
+  -- over every list of a tap's calls, each receiver gives what it gives alone, and the events of both stand in the order of samples
+  pub both-directions : (t : Tap) (calls : List tapping.Call) → tapping.BothDirections t calls
   -- what a caller in another language holds of a state between two calls is that state
   pub stored : (s : Receiver) → receiverOf (numbersOf s) ≡ s
+  pub tap-stored : (t : Tap) → tapOf (tapNumbers t) ≡ t
   -- the starred examples
   pub examples : Examples

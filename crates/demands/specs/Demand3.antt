@@ -6,6 +6,7 @@ use Rattle.margin.specs.Windows.{disturbance}
 use Rattle.promise.specs.Recordings.{Transmission}
 use Rattle.promise.specs.ReadAsSent.{ReadAsSent}
 use Rattle.promise.specs.Possible.{NotVacuous}
+use Rattle.tapped.specs.Tapped.{Tapped, ReadOnTap, TapsPossible, Indexed, ReadWithIndices}
 use Rattle.modulator.specs.Modulate as modulate
 use Rattle.demodulator.specs.Demodulate as demodulate
 use Rattle.read_back.specs.ReadBack.{ReadBack}
@@ -14,6 +15,11 @@ pub record Demand3 : Type 0 where
   pub promise : (a b : Transmission disturbance) → ReadAsSent a b
   -- it speaks of something: every message and every cut of it and of its recording has such calls
   pub possible : NotVacuous
+  -- read by a tap, the events of the sending's band are the characters sent, whatever the other receiver tells; and so are the events that
+  -- are read with indices
+  pub on-tap : (t : Tapped disturbance) → ReadOnTap t
+  pub taps-possible : TapsPossible
+  pub with-indices : (t : Indexed disturbance) → ReadWithIndices t
   -- the two programs, one behind the other
   pub programs : ReadBack
   -- what each of them prints for its whole input, it prints for the part that it reads

@@ -14,6 +14,7 @@ use lib.Seq.{sets, take-all, take-at, drop-drop, take-append-add, drop-append-le
 use Rattle.integers.proofs.Tests.{lt-or-le}
 use Rattle.integers.proofs.Lists.{sets-front, drop-take, same-front}
 use Rattle.calls.specs.Outcome.{outcome, accepted}
+use Rattle.calls.proofs.Indexed.{indices}
 use Rattle.sine.specs.Wave.{weightsOf}
 use Rattle.tones.specs.Bands.{tonesOf}
 use Rattle.tones.specs.Samples.{areSamples}
@@ -22,10 +23,10 @@ use Rattle.control.specs.declared.Decision.{Decision}
 use Rattle.control.specs.Rules.{reports}
 use Rattle.receiver.specs.declared.scan.Reached.{Reached}
 use Rattle.receiver.specs.declared.Receiver.{Receiver}
-use Rattle.receiver.specs.Step.{controlOf, stateAfter, eventsAfter}
+use Rattle.receiver.specs.Step.{controlOf, stateAfter, eventsAfter, indexedAfter}
 use Rattle.receiver.specs.Windows.{decisions}
 use Rattle.receiver.specs.Calls.{inRange, placesFor}
-use Rattle.receiver.specs.AsCoded.{decisionBy, reachedBy, lastWindow, recorded, IsSource, decisionsBy}
+use Rattle.receiver.specs.AsCoded.{decisionBy, reportIndices, reachedBy, lastWindow, recorded, IsSource, decisionsBy}
 use Rattle.receiver.proofs.Energies.{decision-by, bank-of}
 use Rattle.receiver.proofs.Ranges.{in-range}
 use Rattle.receiver.proofs.Counting.{events-few}
@@ -137,3 +138,8 @@ module _ {s : Receiver} {xs : List ℤ} {lent : List ℕ} {n : ℕ} {head : List
               record { band = sym (band-after s xs) i; window = (ew ∙ last-is) i; run = q-control i .run; stage = q-control i .stage };
           lent = stored i;
         }
+
+  -- the indices of its events
+  pub block-indices : (ix told : List ℕ) → told ≡ sets ix 0 (reportIndices (controlOf s) (decisionsOver s xs))
+      → told ≡ sets ix 0 (indices (indexedAfter s xs))
+  block-indices ix told e = e ∙ ap (λ (l : List (ℕ × ℕ)). sets ix 0 (indices l)) (sym (by-windows s xs (a .long) .indexed 0))

@@ -11,3 +11,4 @@ pub mod Heads
 pub mod Blocks
 pub mod Calls
 pub mod Lists
+pub mod Indexed

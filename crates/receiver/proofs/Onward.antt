@@ -11,6 +11,7 @@ use lib.Dec.{leb}
 use lib.ListN.{length}
 use lib.Seq.{slice, slice-empty, length-slice}
 use Rattle.integers.proofs.Tests.{cond-split}
+use Rattle.calls.specs.Runs.{withIndex}
 use Rattle.control.specs.declared.Decision.{Decision}
 use Rattle.control.specs.declared.Event.the-variants.{Nothing}
 use Rattle.control.specs.declared.Next.{Next}
@@ -134,17 +135,18 @@ module _ (ds : List Decision) (p : Place) where
 
     module _ (stage : Stage) where
       -- the decisions from the place to i lead to this stage, with these events
-      abbrev Led : ℕ → Stage → List ℕ → Type 0
-      Led i = Leads (controlAt ds p stage) (slice (p .next) i ds) (runBefore ds p i)
+      abbrev Led : ℕ → Stage → List (ℕ × ℕ) → Type 0
+      Led i = Leads (p .next) (controlAt ds p stage) (slice (p .next) i ds) (runBefore ds p i)
 
       led-more : (i : ℕ) {s : Stage} → p .next ≤ i → i < length ds → Led i s [] → (n : Next) → n ≡ nextOf s (runBefore ds p (i + 1)) (judged ds i)
-          → Led (i + 1) (n .stage) (numbers (n .event))
+          → Led (i + 1) (n .stage) (withIndex i (numbers (n .event)))
       led-more i h l a n e =
           let r = run-more ds p v i (omega (arith, known-first ds p v)) l in
-          rw (decision-more ds (p .next) i h l, r) (lead-more (judged ds i) n (rw r at e) a)
+          let j : p .next + length (slice (p .next) i ds) ≡ i = omega (arith, length-slice (p .next) i ds (omega arith)) in
+          rw (decision-more ds (p .next) i h l, r) (rw j at (lead-more (judged ds i) n (rw r at e) a))
 
       onward-led : (t : Turn) → p .next < t .place .next → IsPlace ds (t .place) → runAt ds (t .place) ≡ runBefore ds p (t .place .next)
-          → Led (t .place .next) (t .stage) (numbers (t .event)) → Onward ds p stage t
+          → Led (t .place .next) (t .stage) (withIndex (t .place .next - 1) (numbers (t .event))) → Onward ds p stage t
       onward-led t h w e a =
           record {
             later = h;
@@ -161,7 +163,7 @@ module _ (ds : List Decision) (p : Place) where
         let e : s .place .next - 1 + 1 ≡ s .place .next = omega (arith, k .later) in
         let h : p .next ≤ s .place .next - 1 = omega (arith, k .later) in
         let l : s .place .next - 1 < length ds = omega (arith, k .later, k .place .inside) in
-        let a : Led stage i stage [] = rw (run-on ds p v i h) at (searches f (runAt ds p) (slice (p .next) i ds) (k .none)) in
+        let a : Led stage i stage [] = rw (run-on ds p v i h) at (searches f (p .next) (runAt ds p) (slice (p .next) i ds) (k .none)) in
         onward-led stage (soughtTo s stage next) (k .later) (k .place) (k .run)
         (rw e at
         (led-more stage i h l a (quiet (cond (s .found) next stage))
@@ -174,7 +176,7 @@ module _ (ds : List Decision) (p : Place) where
       led-wait : (i : ℕ) → p .next ≤ i → i - p .next < wait → i ≤ length ds → Led (Waiting wait slot byte) i (Waiting (wait - (i - p .next)) slot byte) []
       led-wait i h b l =
           let n : length (slice (p .next) i ds) ≡ i - p .next = length-slice (p .next) i ds l in
-          rw (n, run-on ds p v i h) at (waits (runAt ds p) wait slot byte (slice (p .next) i ds) (rw n b))
+          rw (n, run-on ds p v i h) at (waits (p .next) (runAt ds p) wait slot byte (slice (p .next) i ds) (rw n b))
 
       -- it goes on to i
       pub wait-on : (i left : ℕ) → p .next < i → i - p .next < wait → i ≤ length ds → left ≡ wait - (i - p .next)
@@ -190,11 +192,13 @@ module _ (ds : List Decision) (p : Place) where
         later-on : p .next ≤ i
         later-on = omega (arith, low)
 
-        led-slot : Led (Waiting wait slot byte) (i + 1) (n .stage) (numbers (n .event))
+        led-slot : Led (Waiting wait slot byte) (i + 1) (n .stage) (withIndex (i + 1 - 1) (numbers (n .event)))
         led-slot =
             let one : wait - (i - p .next) ≡ 1 = omega (arith, low) in
-            led-more (Waiting wait slot byte) i later-on l (led-wait i later-on (omega (arith, low)) (omega arith)) n
-            (q ∙ sym (wait-parts (runBefore ds p (i + 1)) (judged ds i) (wait - (i - p .next)) slot byte one (stage-slot wait slot byte k)))
+            let last : i + 1 - 1 ≡ i = omega arith in
+            rw last
+            (led-more (Waiting wait slot byte) i later-on l (led-wait i later-on (omega (arith, low)) (omega arith)) n
+            (q ∙ sym (wait-parts (runBefore ds p (i + 1)) (judged ds i) (wait - (i - p .next)) slot byte one (stage-slot wait slot byte k))))
 
         pub slot-taken : SlotTaken (Waiting wait slot byte) i n
         slot-taken =

@@ -10,10 +10,10 @@ use lib.IntN.{ℤ}
 use lib.ListN.{length, getD, take, drop, length-append, length-drop}
 use lib.Seq.{take-at, append-snoc, drop-append-le, drop-drop}
 use Rattle.integers.proofs.Tests.{lt-or-le}
-use Rattle.calls.specs.Runs.{after, gives}
+use Rattle.calls.specs.Runs.{after, gives, indexed, withIndex}
 use Rattle.tones.specs.Bands.{tonesOf}
 use Rattle.control.specs.declared.Decision.{Decision}
-use Rattle.control.specs.Rules.{reported, follow, reports}
+use Rattle.control.specs.Rules.{reported, follow, reports, reportsFrom}
 use Rattle.receiver.specs.declared.Receiver.{Receiver}
 use Rattle.receiver.specs.Energy.{decisionOf}
 use Rattle.receiver.specs.Step.{controlOf, entered, decisionAt, afterSample, eventsAt, stateAfter, eventsAfter}
@@ -68,14 +68,19 @@ decisionsOver s xs = decisionsOf (s .band) (drop 1 (s .window) ++ xs)
 pub record ByWindows (s : Receiver) (xs : List ℤ) : Type 0 where
   pub control : controlOf (stateAfter s xs) ≡ follow (controlOf s) (decisionsOver s xs)
   pub events : eventsAfter s xs ≡ reports (controlOf s) (decisionsOver s xs)
+  pub indexed : (k : ℕ) → indexed afterSample eventsAt k s xs ≡ reportsFrom k (controlOf s) (decisionsOver s xs)
 
 pub by-windows : (s : Receiver) (xs : List ℤ) → length (s .window) ≡ 32 → ByWindows s xs
-unfolding afterSample eventsAt after gives
+unfolding afterSample eventsAt after gives indexed
 by-windows s [] e =
     let none : decisionsOver s [] ≡ [] =
     ap (decisionsOf (s .band)) (append-nil (drop 1 (s .window)))
     ∙ decisions-none (decisionOf (tonesOf (s .band))) (drop 1 (s .window)) (omega (arith, length-drop 1 (s .window))) in
-    record { control = ap (follow (controlOf s)) (sym none); events = ap (reports (controlOf s)) (sym none) }
+    record {
+      control = ap (follow (controlOf s)) (sym none);
+      events = ap (reports (controlOf s)) (sym none);
+      indexed = λ k. ap (reportsFrom k (controlOf s)) (sym none);
+    }
 by-windows s (x ∷ xs) e =
     let more = decisions-entered (decisionOf (tonesOf (s .band))) (s .window) x xs e in
     let rest = by-windows (afterSample s x) xs (length-entered (s .window) x e) in
@@ -84,6 +89,9 @@ by-windows s (x ∷ xs) e =
       events =
           ap (λ (l : List ℕ). reported (controlOf s) (decisionAt s x) ++ l) (rest .events)
           ∙ ap (reports (controlOf s)) (sym more);
+      indexed = λ k.
+          ap (λ (l : List (ℕ × ℕ)). withIndex k (reported (controlOf s) (decisionAt s x)) ++ l) (rest .indexed (k + 1))
+          ∙ ap (reportsFrom k (controlOf s)) (sym more);
     }
 
 pub band-after : (s : Receiver) (xs : List ℤ) → stateAfter s xs .band ≡ s .band

@@ -4,25 +4,31 @@
 -- Assumes nothing.
 use mathlib.Core.Path.{_≡_}
 use mathlib.Core.Bool.{Bool, false, true, cond}
-use mathlib.Core.List.{List, _++_}
+use mathlib.Core.List.{List, _++_, map}
 use Prim.Native.Nat.{ℕ, _+_, _-_, _*_, _<_, _≤_}
-use lib.Dec.{ltb, leb}
+use lib.Dec.{ltb, leb, eqb}
 use lib.IntN.{ℤ, _+ℤ_, _*ℤ_}
 use lib.ListN.{length, getD, take, drop}
-use lib.Seq.{slice}
+use lib.Seq.{sets, slice}
 use Rattle.integers.specs.Sums.{dot, Bounded}
+use Rattle.calls.specs.Refusals.{firstOf}
+use Rattle.calls.specs.Outcome.{Outcome, unlessRefused, accepted}
+use Rattle.calls.specs.Runs.{withIndex}
 use Rattle.tones.specs.Samples.{areSamples}
 use Rattle.control.specs.declared.Decision.{Decision}
 use Rattle.control.specs.declared.Stage.{Stage}
 use Rattle.control.specs.declared.Event.the-variants.{Nothing}
 use Rattle.control.specs.declared.Control.{Control}
-use Rattle.control.specs.Rules.{numbers, follow, reports}
+use Rattle.control.specs.Rules.{numbers, follow, reports, reportsFrom}
 use Rattle.control.specs.AsCoded.{isFound, runOver, NoneFound}
 use Rattle.receiver.specs.declared.moves.Place.{Place}
 use Rattle.receiver.specs.declared.seek.Sought.{Sought}
 use Rattle.receiver.specs.declared.scan.Turn.{Turn}
 use Rattle.receiver.specs.declared.scan.Reached.{Reached}
+use Rattle.receiver.specs.declared.Receiver.{Receiver}
 use Rattle.receiver.specs.Energy.{decided}
+use Rattle.receiver.specs.Step.{stateAfter, eventsAfter, indexedAfter}
+use Rattle.receiver.specs.Calls.{blockTests}
 use Rattle.receiver.specs.Windows.{decisions}
 
 -- ---- energies from lists of weights: cosines or sines of a tone
@@ -123,14 +129,19 @@ missedAt p = record { place = p; found = false }
 abbrev pub soughtTo : Sought → Stage → Stage → Turn
 soughtTo s stage next = record { place = s .place; stage = cond (s .found) next stage; event = Nothing }
 
--- Reading on from the place p comes to the place and the stage of t, and brings its event.
+-- Reading on from the place p comes to the place and the stage of t, and brings its event, with the last decision.
 pub record Onward (ds : List Decision) (p : Place) (stage : Stage) (t : Turn) : Type 0 where
   pub later : p .next < t .place .next
   pub place : IsPlace ds (t .place)
   pub control : follow (controlAt ds p stage) (slice (p .next) (t .place .next) ds) ≡ controlAt ds (t .place) (t .stage)
-  pub events : reports (controlAt ds p stage) (slice (p .next) (t .place .next) ds) ≡ numbers (t .event)
+  pub events : reportsFrom (p .next) (controlAt ds p stage) (slice (p .next) (t .place .next) ds)
+      ≡ withIndex (t .place .next - 1) (numbers (t .event))
 
 -- ---- the end of a block
+
+-- the indices of the events that its decisions bring
+abbrev pub reportIndices : Control → List Decision → List ℕ
+reportIndices c ds = map (λ (e : ℕ × ℕ). e .1) (reportsFrom 0 c ds)
 
 -- run and stage after its decisions, and how many events they bring
 abbrev pub reachedBy : Control → List Decision → Reached
@@ -139,3 +150,14 @@ reachedBy c ds = record { control = follow c ds; count = length (reports c ds) }
 -- the last 32 of a window and a block xs, where `head` is the window with at most 31 samples of the block behind it
 abbrev pub lastWindow : List ℤ → List ℤ → List ℤ
 lastWindow head xs = cond (ltb (length xs) 32) (take 32 (drop (length xs) head)) (drop (length xs - 32) xs)
+
+-- ---- a call
+
+-- a block call in which so many places of the list count
+abbrev pub blockIn : Receiver → List ℤ → ℕ → List ℕ → Outcome Receiver (List ℕ)
+blockIn s xs places lent = unlessRefused (blockTests s xs places) s lent (accepted (stateAfter s xs) (eventsAfter s xs) lent)
+
+-- the list of indices that it leaves
+abbrev pub indicesIn : Receiver → List ℤ → ℕ → List ℕ → List ℕ
+indicesIn s xs places ix =
+    cond (eqb (firstOf (blockTests s xs places)) 0) (sets ix 0 (map (λ (e : ℕ × ℕ). e .1) (indexedAfter s xs))) ix

@@ -3,19 +3,19 @@
 -- Assumes nothing.
 use mathlib.Core.Bool.{Bool, cond, not, _&&_}
 use mathlib.Core.List.{List, [], _∷_}
-use Prim.Native.Nat.{ℕ, _+_, _/_}
+use Prim.Native.Nat.{ℕ, _+_, _/_, min}
 use lib.Dec.{ltb}
 use lib.IntN.{ℤ, pos}
 use lib.ListN.{length, replicate}
 use Rattle.calls.specs.Refusals.{Test, test, firstOf}
-use Rattle.calls.specs.Outcome.{Outcome, unlessRefused, accepted}
+use Rattle.calls.specs.Outcome.{Outcome, unlessRefused, acceptedIn, oneList, bothIn, accepted}
 use Rattle.tones.specs.Bands.{isBand}
 use Rattle.tones.specs.Samples.{mostSamples, areSamples}
 use Rattle.control.specs.declared.Stage.the-variants.{Searching}
 use Rattle.control.specs.Ranges.{isControl}
 use Rattle.receiver.specs.declared.Receiver.{Receiver}
 use Rattle.receiver.specs.declared.Opened.{Opened}
-use Rattle.receiver.specs.Step.{controlOf, stateAfter, eventsAfter}
+use Rattle.receiver.specs.Step.{controlOf, stateAfter, eventsAfter, indexedAfter}
 
 -- ---- opening
 
@@ -46,14 +46,26 @@ placesFor n = n / 48 + 1
 abbrev pub mostEvents : ℕ
 mostEvents = placesFor mostSamples
 
--- 2, 3, 5 or 4, or the events of the samples
-abbrev pub blockTests : (s : Receiver) (xs : List ℤ) (places : ℕ) → List Test
-blockTests s xs places =
-    test 2 (not (inRange s))
+-- the tests of a block, in this order: the ranges of the state, the number of samples, their range, and the places that are needed
+abbrev pub testsOf : (ranged : Bool) (xs : List ℤ) (needed places : ℕ) → List Test
+testsOf ranged xs needed places =
+    test 2 (not ranged)
     ∷ test 3 (ltb mostSamples (length xs))
     ∷ test 5 (not (areSamples xs))
-    ∷ test 4 (ltb places (placesFor (length xs)))
+    ∷ test 4 (ltb places needed)
     ∷ []
+
+-- 2, 3, 5 or 4, or the events of the samples
+abbrev pub blockTests : (s : Receiver) (xs : List ℤ) (places : ℕ) → List Test
+blockTests s xs places = testsOf (inRange s) xs (placesFor (length xs)) places
 
 unfoldable pub blockOf : Receiver → List ℤ → List ℕ → Outcome Receiver (List ℕ)
 blockOf s xs lent = unlessRefused (blockTests s xs (length lent)) s lent (accepted (stateAfter s xs) (eventsAfter s xs) lent)
+
+-- ---- a block with indices, which two lists are lent for: the events, and beside each the index of its sample in the block
+
+-- of two lent lists, the shorter one's places are those that count
+unfoldable pub indexedOf : Receiver → List ℤ → List ℕ × List ℕ → Outcome Receiver (List ℕ × List ℕ)
+indexedOf s xs lent =
+    unlessRefused (blockTests s xs (min (length (lent .0)) (length (lent .1)))) s lent
+    (acceptedIn (bothIn oneList oneList) (stateAfter s xs) (indexedAfter s xs) lent)

@@ -1,17 +1,17 @@
 -- Lists of block calls (the specification, "Whole recordings"), and demand 2 over them: the events are exactly those of the step rule.
 -- Assumes nothing.
 use mathlib.Core.Path.{_≡_}
-use mathlib.Core.Bool.{true}
-use mathlib.Core.List.{List, _++_}
-use Prim.Native.Nat.{ℕ, _≤_}
+use mathlib.Core.Bool.{true, cond}
+use mathlib.Core.List.{List, [], _∷_, _++_, map}
+use Prim.Native.Nat.{ℕ, _+_, _≤_, min}
 use lib.IntN.{ℤ}
-use lib.ListN.{length}
-use Rattle.calls.specs.Outcome.{Outcome, isAccepted, front}
+use lib.ListN.{length, take}
+use Rattle.calls.specs.Outcome.{Outcome, isAccepted, frontIn, oneList, front, bothIn}
 use Rattle.calls.specs.Lists as lists
 use Rattle.tones.specs.Samples.{mostSamples}
 use Rattle.receiver.specs.declared.Receiver.{Receiver}
-use Rattle.receiver.specs.Step.{stateAfter, eventsAfter}
-use Rattle.receiver.specs.Calls.{inRange, placesFor, blockOf}
+use Rattle.receiver.specs.Step.{stateAfter, eventsAfter, indexedAfter}
+use Rattle.receiver.specs.Calls.{inRange, placesFor, blockOf, indexedOf}
 
 -- the two entries: the state goes in and comes back by value, or it is lent and the next one is left in its place
 pub data Entry : Type 0 where
@@ -56,3 +56,46 @@ TwoBlocks s one two lent =
     isAccepted (callOf s one) ≡ true → isAccepted (callOf (callOf s one .state) two) ≡ true
     → length (one .samples ++ two .samples) ≤ mostSamples → placesFor (length (one .samples ++ two .samples)) ≤ length lent
     → ReadAs (blockOf s (one .samples ++ two .samples) lent) (callOf s one) (callOf (callOf s one .state) two)
+
+-- ---- blocks with indices
+
+-- a call that lends a list for the indices too
+pub record IndexedCall : Type 0 where
+  pub samples : List ℤ
+  pub lent : List ℕ
+  pub indices : List ℕ
+
+abbrev pub indexedCallOf : Receiver → IndexedCall → Outcome Receiver (List ℕ × List ℕ)
+indexedCallOf s c = indexedOf s (c .samples) (c .lent, c .indices)
+
+-- the block call that lends as many places as the shorter list has
+abbrev pub withoutIndices : IndexedCall → Call
+withoutIndices c =
+    record { entry = byValue; samples = c .samples; lent = take (min (length (c .lent)) (length (c .indices))) (c .lent) }
+
+-- Without its indices it is that call: the number, the count, the state, and the events.
+pub record ReadsAsBlock (block : Outcome Receiver (List ℕ)) (o : Outcome Receiver (List ℕ × List ℕ)) : Type 0 where
+  pub number : o .number ≡ block .number
+  pub count : o .count ≡ block .count
+  pub state : o .state ≡ block .state
+  pub events : take (o .count) (o .lent .0) ≡ front block
+
+-- each index is counted from k on
+abbrev pub countedFrom : ℕ → List (ℕ × ℕ) → List (ℕ × ℕ)
+countedFrom k = map (λ (e : ℕ × ℕ). (e .0, k + e .1))
+
+-- the events of the accepted calls with their indices, as they stood on return, joined in order; each index is counted on from the samples
+-- that were read before, of which there are k to begin with
+unfoldable pub indexedRead : ℕ → Receiver → List IndexedCall → List (ℕ × ℕ)
+indexedRead k s [] = []
+indexedRead k s (c ∷ cs) =
+    let o : Outcome Receiver (List ℕ × List ℕ) = indexedCallOf s c in
+    cond (isAccepted o) (countedFrom k (frontIn (bothIn oneList oneList) o)) []
+    ++ indexedRead (k + cond (isAccepted o) (length (c .samples)) 0) (o .state) cs
+
+-- Over every list of such calls, refused ones among them: without its indices each is a block call; and with them the events are those of
+-- the samples read, each with the index of the sample that brings it.
+pub record IndexedReading (s : Receiver) (calls : List IndexedCall) : Type 0 where
+  pub block : (c : IndexedCall) → ReadsAsBlock (callOf s (withoutIndices c)) (indexedCallOf s c)
+  pub state : lists.stateAfter indexedCallOf s calls ≡ lists.stateAfter callOf s (map withoutIndices calls)
+  pub events : indexedRead 0 s calls ≡ indexedAfter s (samplesRead s (map withoutIndices calls))

@@ -5,7 +5,7 @@ use mathlib.Core.List.{List, [], _∷_, _++_}
 use Prim.Native.Nat.{ℕ}
 use lib.IntN.{ℤ}
 use lib.ListN.{drop}
-use Rattle.calls.specs.Runs.{after, gives}
+use Rattle.calls.specs.Runs.{after, gives, indexed}
 use Rattle.tones.specs.Bands.{tonesOf}
 use Rattle.control.specs.declared.Decision.{Decision}
 use Rattle.control.specs.declared.Control.{Control}
@@ -43,3 +43,7 @@ stateAfter = after afterSample
 
 abbrev pub eventsAfter : Receiver → List ℤ → List ℕ
 eventsAfter = gives afterSample eventsAt
+
+-- the events, each with the index of the sample that brings it; the first sample of the list has the index 0
+abbrev pub indexedAfter : Receiver → List ℤ → List (ℕ × ℕ)
+indexedAfter = indexed afterSample eventsAt 0

@@ -2,11 +2,13 @@
 // the head: the old window with the first samples behind it. All others are parts of the block itself.
 ghost use mathlib.Core.Path.{_≡_};
 ghost use mathlib.Core.Bool.{true};
-ghost use Prim.Native.Nat.{_≤_};
+ghost use mathlib.Core.List.{map};
+ghost use Prim.Native.Nat.{ℕ, _≤_};
 ghost use lib.ListN.{length};
+ghost use lib.Seq.{sets};
 ghost use Rattle.calls.specs.Outcome.{outcome, accepted};
-ghost use Rattle.tones.specs.Samples.{areSamples};
-ghost use Rattle.receiver.specs.Step.{stateAfter, eventsAfter};
+ghost use Rattle.tones.specs.Samples.{mostSamples, areSamples};
+ghost use Rattle.receiver.specs.Step.{stateAfter, eventsAfter, indexedAfter};
 ghost use Rattle.receiver.specs.Calls.{inRange, placesFor};
 use super::Reading;
 use super::Receiver;
@@ -16,12 +18,21 @@ use super::scan;
 use calls::Answer;
 use control::Control;
 
-pub(crate) fn read(receiver: Receiver, samples: &[i16], events: &mut [u16]) -> Reading
+// Reads the samples. The indices of the events are written as far as there are places for them.
+pub(crate) fn read(
+    receiver: Receiver,
+    samples: &[i16],
+    events: &mut [u16],
+    indices: &mut [u16],
+) -> Reading
     requires { ⌜ inRange receiver ≡ true ⌝ }
+    requires { ⌜ length (now samples) ≤ mostSamples ⌝ }
     requires { ⌜ areSamples (now samples) ≡ true ⌝ }
     requires { ⌜ placesFor (length (now samples)) ≤ length (now events) ⌝ }
-    ensures { λ r. ⌜ outcome (r .answer) (r .receiver) (now (events .exit))
+    ensures read { λ r. ⌜ outcome (r .answer) (r .receiver) (now (events .exit))
         ≡ accepted (stateAfter receiver (now (samples .entry))) (eventsAfter receiver (now (samples .entry))) (now (events .entry)) ⌝ }
+    ensures told { λ r. ⌜ now (indices .exit)
+        ≡ sets (now (indices .entry)) 0 (map (λ (e : ℕ × ℕ). e .1) (indexedAfter receiver (now (samples .entry)))) ⌝ }
 {
     let band = receiver.band;
     let old = receiver.window;
@@ -34,7 +45,7 @@ pub(crate) fn read(receiver: Receiver, samples: &[i16], events: &mut [u16]) -> R
     let head = ends::joined(&old, samples, n);
     let tones = tones::tones_of(band);
     let weights = sine::weights(tones.space, tones.mark);
-    let last = scan::scan(&head, samples, &weights, events, control);
+    let last = scan::scan(&head, samples, &weights, events, indices, control);
     let window = ends::last_window(&head, samples);
     let next = last.control;
     let then = next.stage;

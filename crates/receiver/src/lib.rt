@@ -1,9 +1,12 @@
 // The receiver, the specification's reader: opening, and blocks of samples to events. Events go to the front of a caller's list,
 // the specification's lent list; the state goes in and comes back by value.
 ghost use mathlib.Core.Path.{_≡_};
+ghost use Prim.Native.Nat.{_≤_};
+ghost use lib.ListN.{length};
 ghost use Rattle.calls.specs.Refusals.{firstOf};
 ghost use Rattle.calls.specs.Outcome.{outcome};
-ghost use Rattle.receiver.specs.Calls.{openOf, inRange, blockTests, blockOf};
+ghost use Rattle.receiver.specs.Calls.{openOf, inRange, blockTests, blockOf, indexedOf};
+ghost use Rattle.receiver.specs.AsCoded.{blockIn, indicesIn};
 
 mod block;
 mod ends;
@@ -63,11 +66,39 @@ impl Receiver {
         ensures { λ r. ⌜ outcome (r .answer) (r .receiver) (now (events .exit))
             ≡ blockOf self (now (samples .entry)) (now (events .entry)) ⌝ }
     {
-        let number = self.refusal(samples, events.len());
+        let mut none = [0u16; 0];
+        let places = events.len();
+        self.block_in(samples, events, &mut none, places)
+    }
+
+    // Reads a block of samples, and tells with which of them each event came: the index in the block goes to the event's place in
+    // `indices`.
+    pub fn block_indexed(self, samples: &[i16], events: &mut [u16], indices: &mut [u16]) -> Reading
+        ensures { λ r. ⌜ outcome (r .answer) (r .receiver) (now (events .exit), now (indices .exit))
+            ≡ indexedOf self (now (samples .entry)) (now (events .entry), now (indices .entry)) ⌝ }
+    {
+        let places = moves::least(events.len(), indices.len());
+        self.block_in(samples, events, indices, places)
+    }
+
+    // Reads a block with so many places of `events`, and tells the indices as far as there are places for them.
+    fn block_in(
+        self,
+        samples: &[i16],
+        events: &mut [u16],
+        indices: &mut [u16],
+        places: usize,
+    ) -> Reading
+        requires { ⌜ places ≤ length (now events) ⌝ }
+        ensures read { λ r. ⌜ outcome (r .answer) (r .receiver) (now (events .exit))
+            ≡ blockIn self (now (samples .entry)) places (now (events .entry)) ⌝ }
+        ensures told { λ r. ⌜ now (indices .exit) ≡ indicesIn self (now (samples .entry)) places (now (indices .entry)) ⌝ }
+    {
+        let number = self.refusal(samples, places);
         if number != 0 {
             return self.refused(number);
         }
-        block::read(self, samples, events)
+        block::read(self, samples, events, indices)
     }
 
     // The number of the first reason to refuse a block with so many places lent, or 0.

@@ -2,13 +2,15 @@
 // while the receiver waits, that of the slot; while it searches, those after which the run can be 32; for the run, the last ones.
 ghost use mathlib.Core.Path.{_≡_};
 ghost use mathlib.Core.Bool.{true};
-ghost use Prim.Native.Nat.{_+_, _<_, _≤_};
-ghost use lib.ListN.{length};
+ghost use mathlib.Core.List.{map};
+ghost use Prim.Native.Nat.{_+_, _-_, _<_, _≤_};
+ghost use lib.ListN.{length, set};
 ghost use lib.Seq.{sets};
+ghost use Rattle.tones.specs.Samples.{mostSamples};
 ghost use Rattle.control.specs.declared.Stage.the-variants.{Waiting};
 ghost use Rattle.control.specs.Ranges.{isControl, isStage};
 ghost use Rattle.control.specs.Rules.{numbers, reports};
-ghost use Rattle.receiver.specs.AsCoded.{IsSource, decisionsBy, IsPlace, soughtTo, Onward, reachedBy};
+ghost use Rattle.receiver.specs.AsCoded.{IsSource, decisionsBy, IsPlace, soughtTo, Onward, reachedBy, reportIndices};
 use super::energy;
 use super::moves;
 use super::moves::Place;
@@ -32,20 +34,25 @@ pub(crate) struct Reached {
     pub count: usize,
 }
 
-// Reads a block from a run and a stage on, and writes its events. The run at the end is part of the next state.
+// Reads a block from a run and a stage on, and writes its events, and their indices as far as there are places for them. The run at the end
+// is part of the next state.
 pub(crate) fn scan(
     head: &[i16],
     samples: &[i16],
     weights: &[i16],
     events: &mut [u16],
+    indices: &mut [u16],
     first: Control,
 ) -> Reached
     requires { ⌜ IsSource (now weights) (now head) (now samples) ⌝ }
+    requires { ⌜ length (now samples) ≤ mostSamples ⌝ }
     requires { ⌜ isControl first ≡ true ⌝ }
     requires { ⌜ length (reports first (decisionsBy (now weights) (now head) (now samples))) ≤ length (now events) ⌝ }
     ensures reached { λ r. ⌜ r ≡ reachedBy first
         (decisionsBy (now (weights .entry)) (now (head .entry)) (now (samples .entry))) ⌝ }
     ensures lent { λ r. ⌜ now (events .exit) ≡ sets (now (events .entry)) 0 (reports first
+        (decisionsBy (now (weights .entry)) (now (head .entry)) (now (samples .entry)))) ⌝ }
+    ensures told { λ r. ⌜ now (indices .exit) ≡ sets (now (indices .entry)) 0 (reportIndices first
         (decisionsBy (now (weights .entry)) (now (head .entry)) (now (samples .entry)))) ⌝ }
 {
     let run = first.run;
@@ -57,7 +64,7 @@ pub(crate) fn scan(
         let to = t.place;
         let then = t.stage;
         let event = t.event;
-        count = put_event(events, count, event);
+        count = put_event(events, indices, count, event, index_before(to.next));
         place = to;
         stage = then;
     }
@@ -149,19 +156,38 @@ fn wait_for(
     }
 }
 
-// Writes the event, if there is one, to the place `at`, and gives the place behind it.
-fn put_event(events: &mut [u16], at: usize, event: Event) -> usize
+// Writes the event, if there is one, to the place `at`, and its index to the same place of `indices`, if that has one. Gives the place
+// behind it.
+fn put_event(events: &mut [u16], indices: &mut [u16], at: usize, event: Event, index: u16) -> usize
     requires { ⌜ at + length (numbers event) ≤ length (now events) ⌝ }
     ensures count { λ r. ⌜ r ≡ at + length (numbers event) ⌝ }
     ensures lent { λ r. ⌜ now (events .exit) ≡ sets (now (events .entry)) at (numbers event) ⌝ }
+    ensures told { λ r. ⌜ now (indices .exit) ≡ sets (now (indices .entry)) at (map (λ n. index) (numbers event)) ⌝ }
 {
     match event {
         Event::Nothing => at,
         Event::Number(number) => {
             events[at] = number;
+            put_index(indices, at, index);
             at + 1
         }
     }
+}
+
+fn put_index(indices: &mut [u16], at: usize, index: u16)
+    ensures { λ r. ⌜ now (indices .exit) ≡ set (now (indices .entry)) at index ⌝ }
+{
+    if at < indices.len() {
+        indices[at] = index;
+    }
+}
+
+// The index of the window before the place `next`.
+fn index_before(next: usize) -> u16
+    requires { ⌜ (0 < next) × (next ≤ mostSamples) ⌝ }
+    ensures { λ r. ⌜ r ≡ next - 1 ⌝ }
+{
+    (next - 1) as u16
 }
 
 fn wide(x: u8) -> usize

@@ -1,5 +1,5 @@
 -- The numbers of a state stand for that state, and a stage out of its range is refused. And what a block call on numbers gives, from what
--- an entry of the receiver gives: the two entries have one contract.
+-- an entry of the receiver gives.
 -- Assumes nothing.
 use mathlib.Core.Path.{_≡_, refl, ap, _∙_}
 use mathlib.Core.Bool.{false, and-false}
@@ -9,7 +9,7 @@ use native.Mathlib.Omega.{arith}
 use borrow.Author.Tests.{ne-eqb}
 use lib.Dec.{eqb}
 use lib.IntN.{ℤ}
-use Rattle.calls.specs.Outcome.{answerOf, outcome, refused}
+use Rattle.calls.specs.Outcome.{Outcome, answerOf, outcome, refused}
 use Rattle.control.specs.declared.Stage.{Stage}
 use Rattle.control.specs.declared.Stage.the-variants.{Searching, Waiting, Held}
 use Rattle.control.specs.Ranges.{isStage, isControl}
@@ -37,9 +37,8 @@ stage-refused n xs lent h =
     simp (other 0 (omega arith), other 1 (omega arith), other 2 (omega arith), and-false)
 
 -- An entry is called with the state of the numbers n and gives r; what is handed back of r is the call on n.
-module _ (n : State) (xs : List ℤ) (lent : List ℕ) {s : Receiver} {r : Reading} {now : List ℕ} {b : Block} where
-  pub stored : s ≡ receiverOf n → outcome (r .answer) (r .receiver) now ≡ blockOf s xs lent → b ≡ readingNumbers r n
-      → outcome (answerOf (b .number) (b .count)) (b .receiver) now ≡ blockNumbers n xs lent
+module _ {L : Type 0} (n : State) (call : Receiver → Outcome Receiver L) {s : Receiver} {r : Reading} {now : L} {b : Block} where
+  pub stored : s ≡ receiverOf n → outcome (r .answer) (r .receiver) now ≡ call s → b ≡ readingNumbers r n
+      → outcome (answerOf (b .number) (b .count)) (b .receiver) now ≡ outcomeNumbers n (call (receiverOf n))
   stored made read kept =
-      ap (λ (k : Block). outcome (answerOf (k .number) (k .count)) (k .receiver) now) kept
-      ∙ ap (outcomeNumbers n) (read ∙ ap (λ (t : Receiver). blockOf t xs lent) made)
+      ap (λ (k : Block). outcome (answerOf (k .number) (k .count)) (k .receiver) now) kept ∙ ap (outcomeNumbers n) (read ∙ ap call made)

@@ -12,7 +12,7 @@ use Rattle.control.specs.declared.Stage.the-variants.{Searching, Waiting, Held}
 use Rattle.receiver.specs.declared.Receiver.{Receiver}
 use Rattle.receiver.specs.declared.Opened.{Opened}
 use Rattle.receiver.specs.declared.Reading.{Reading}
-use Rattle.receiver.specs.Calls.{blockOf}
+use Rattle.receiver.specs.Calls.{blockOf, indexedOf}
 use Rattle.receiving.specs.declared.StageNumbers.{StageNumbers}
 use Rattle.receiving.specs.declared.State.{State}
 use Rattle.receiving.specs.declared.Opening.{Opening}
@@ -66,10 +66,14 @@ abbrev pub readingNumbers : Reading → State → Block
 readingNumbers r handed =
     record { receiver = nextNumbers (r .answer .number) (r .receiver) handed; number = r .answer .number; count = r .answer .count }
 
-abbrev pub outcomeNumbers : State → Outcome Receiver (List ℕ) → Outcome State (List ℕ)
+abbrev pub outcomeNumbers : {L : Type 0} → State → Outcome Receiver L → Outcome State L
 outcomeNumbers handed o =
     record { number = o .number; count = o .count; state = nextNumbers (o .number) (o .state) handed; lent = o .lent }
 
 -- a block call on the numbers of a state
 abbrev pub blockNumbers : State → List ℤ → List ℕ → Outcome State (List ℕ)
 blockNumbers handed xs lent = outcomeNumbers handed (blockOf (receiverOf handed) xs lent)
+
+-- the same with indices
+abbrev pub indexedNumbers : State → List ℤ → List ℕ × List ℕ → Outcome State (List ℕ × List ℕ)
+indexedNumbers handed xs lent = outcomeNumbers handed (indexedOf (receiverOf handed) xs lent)

@@ -2,7 +2,7 @@
 ghost use mathlib.Core.Path.{_≡_};
 ghost use Rattle.calls.specs.Outcome.{answerOf, outcome};
 ghost use Rattle.receiver.specs.Calls.{openOf};
-ghost use Rattle.receiving.specs.Numbers.{stageOf, stageNumbers, receiverOf, numbersOf, openedNumbers, readingNumbers, blockNumbers};
+ghost use Rattle.receiving.specs.Numbers.{stageOf, stageNumbers, receiverOf, numbersOf, openedNumbers, readingNumbers, blockNumbers, indexedNumbers};
 
 mod testing;
 
@@ -74,6 +74,21 @@ pub extern "C" fn modem_receiver_block(
     reading_numbers(reading, receiver)
 }
 
+// The same, and with which sample of the block each event came: its index goes to the event's place in `indices`.
+#[no_mangle]
+pub extern "C" fn modem_receiver_block_indexed(
+    receiver: State,
+    samples: &[i16],
+    events: &mut [u16],
+    indices: &mut [u16],
+) -> Block
+    ensures { λ r. ⌜ outcome (answerOf (r .number) (r .count)) (r .receiver) (now (events .exit), now (indices .exit))
+        ≡ indexedNumbers receiver (now (samples .entry)) (now (events .entry), now (indices .entry)) ⌝ }
+{
+    let reading = receiver_of(receiver).block_indexed(samples, events, indices);
+    reading_numbers(reading, receiver)
+}
+
 // What a block call on a state hands back, from what an entry of the receiver gave: the next state if it was accepted, and the state as
 // it was handed if not.
 fn reading_numbers(reading: Reading, handed: State) -> Block
@@ -94,7 +109,7 @@ fn reading_numbers(reading: Reading, handed: State) -> Block
 }
 
 // The state of its numbers.
-fn receiver_of(state: State) -> Receiver
+pub fn receiver_of(state: State) -> Receiver
     ensures { λ r. ⌜ r ≡ receiverOf state ⌝ }
 {
     let window = state.window;
@@ -112,7 +127,8 @@ fn receiver_of(state: State) -> Receiver
     }
 }
 
-fn numbers_of(receiver: Receiver) -> State
+// The numbers of a state.
+pub fn numbers_of(receiver: Receiver) -> State
     ensures { λ r. ⌜ r ≡ numbersOf receiver ⌝ }
 {
     let window = receiver.window;

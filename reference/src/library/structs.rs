@@ -1,6 +1,7 @@
 //! The structs of `c/modem.h`, and what each is to the reference.
 
 use crate::receiver::{self, Stage, WINDOW};
+use crate::tap;
 use crate::transmitter::{Answer, State};
 
 /// `modem_answer`.
@@ -55,11 +56,19 @@ pub struct ReceiverOpened {
     pub receiver: Numbers,
 }
 
-/// `modem_block`.
+/// `modem_tap`, the state of a tap.
 #[repr(C)]
 #[derive(Clone, Copy, Debug, PartialEq, Eq)]
-pub struct BlockAnswer {
-    pub state: Numbers,
+pub struct Tap {
+    pub first: Numbers,
+    pub second: Numbers,
+}
+
+/// `modem_block`, and with the state of a tap `modem_tap_reading`.
+#[repr(C)]
+#[derive(Clone, Copy, Debug, PartialEq, Eq)]
+pub struct BlockAnswer<S = Numbers> {
+    pub state: S,
     pub number: u8,
     pub count: usize,
 }
@@ -154,6 +163,24 @@ impl From<Numbers> for receiver::State {
             window: numbers.window,
             run: numbers.run,
             stage: stage_of(numbers.stage_numbers()),
+        }
+    }
+}
+
+impl From<tap::State> for Tap {
+    fn from(state: tap::State) -> Tap {
+        Tap {
+            first: state.first.into(),
+            second: state.second.into(),
+        }
+    }
+}
+
+impl From<Tap> for tap::State {
+    fn from(tap: Tap) -> tap::State {
+        tap::State {
+            first: tap.first.into(),
+            second: tap.second.into(),
         }
     }
 }

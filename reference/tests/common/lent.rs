@@ -46,9 +46,10 @@ pub fn no_sample(place: usize) -> i16 {
     [above, -above][place % 2]
 }
 
-/// Differs from place to place and is never an event.
+/// Differs from place to place and is never an event, of a receiver or of a tap, nor
+/// an index in a block.
 pub fn no_event(place: usize) -> u16 {
-    u16::try_from(1_000 + place % 60_000).expect("at most 60999")
+    u16::try_from(16_384 + place % 49_000).expect("at most 65383")
 }
 
 /// Differs from place to place and is no byte of a sheet.

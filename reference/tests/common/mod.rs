@@ -1,7 +1,8 @@
 //! What the test files share: one call made on either side, and compared. This
-//! file has the transmitter, `receiver` the receiver, `recording` what it reads,
-//! `states` what it goes on from, `refused` what it refuses in between and `met`
-//! what it gave; `sheet_calls` and `loopback` have other calls, and `lent` the lists
+//! file has the transmitter, `receiver` the receiver, `indexed` its call with indices
+//! and `tap` the tap; `recording` what they read, `states` what they go on from,
+//! `rows` one call behind the other, `refused` what they refuse and `met` what a
+//! receiver gave; `sheet_calls` and `loopback` have other calls, and `lent` the lists
 //! that any call is lent. `process` runs the programs, and `faults` lets their reads
 //! and writes go wrong. `sheets` and `forms` have sheets and almost sheets, `lengths`
 //! how long they are, and `disturbances` what a line may add. `c` compiles C.
@@ -13,6 +14,7 @@ pub mod declared;
 pub mod disturbances;
 pub mod faults;
 pub mod forms;
+pub mod indexed;
 pub mod lengths;
 pub mod lent;
 pub mod loopback;
@@ -22,9 +24,11 @@ pub mod process;
 pub mod receiver;
 pub mod recording;
 pub mod refused;
+pub mod rows;
 pub mod sheet_calls;
 pub mod sheets;
 pub mod states;
+pub mod tap;
 
 use lent::{no_sample, Lent};
 use reference::library;

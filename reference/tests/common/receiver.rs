@@ -1,10 +1,14 @@
-//! A receiver call made on either side, and compared.
+//! A receiver call made on either side, and compared; and what a tap's call has in
+//! common with it.
 
 use super::lent::{no_event, Lent};
+use super::states::hostile;
 use super::{sines, Side, SIDES};
 use reference::library::{self, BlockAnswer, Numbers};
-use reference::receiver::{self, places_needed, Answer, State};
+use reference::random::Random;
+use reference::receiver::{self, Answer};
 use reference::sine::Sines;
+use std::fmt::Debug;
 
 // The specification's numbers once more, so that a slip in the reference's own shows.
 pub const WINDOW: usize = 32;
@@ -25,13 +29,25 @@ pub const FRESH: Numbers = Numbers {
     byte: 0,
 };
 
+/// What a block is read from: the state of a receiver or of a tap.
+pub trait BlockState: Copy + Debug + PartialEq {
+    /// The places that a block of so many samples needs.
+    fn places_needed(samples: usize) -> usize;
+
+    /// The library must answer the call as the reference does, in every place.
+    fn compare(self, samples: &[i16], length: usize) -> Reading<Self>;
+
+    /// Another one, which must be refused with 2.
+    fn spoiled(self, random: &mut Random) -> Self;
+}
+
 /// An answer with the lent list as it stood on return.
-pub struct Reading {
-    pub answer: BlockAnswer,
+pub struct Reading<S = Numbers> {
+    pub answer: BlockAnswer<S>,
     pub places: Vec<u16>,
 }
 
-impl Reading {
+impl<S> Reading<S> {
     pub fn events(&self) -> &[u16] {
         &self.places[..self.answer.count]
     }
@@ -56,18 +72,22 @@ pub fn fresh(band: u8) -> Numbers {
     state
 }
 
-/// A Rust receiver behind the C functions' numbers. A refusal changes none of
-/// them, and an accepted call stores the next state in its one form.
-pub fn in_numbers(
-    block: impl Fn(&Sines, State, &[i16], &mut [u16]) -> Answer,
-    state: Numbers,
+/// A Rust receiver or tap behind the C functions' numbers. A refusal changes none
+/// of them, and an accepted call stores the next state in its one form.
+pub fn in_numbers<N, S>(
+    block: impl FnOnce(&Sines, S, &[i16], &mut [u16]) -> Answer<S>,
+    state: N,
     samples: &[i16],
     events: &mut [u16],
-) -> BlockAnswer {
-    let handed = State::from(state);
+) -> BlockAnswer<N>
+where
+    N: Copy + From<S>,
+    S: Copy + Debug + PartialEq + From<N>,
+{
+    let handed = S::from(state);
     let answer = block(sines(), handed, samples, events);
     let state = if answer.number == 0 {
-        Numbers::from(answer.state)
+        N::from(answer.state)
     } else {
         assert_eq!(answer.state, handed, "refused with {}", answer.number);
         state
@@ -110,13 +130,13 @@ impl Entry {
 }
 
 /// The same for any function that answers such a call.
-pub fn guarded(
-    call: impl Fn(&[i16], &mut [u16]) -> BlockAnswer,
-    state: Numbers,
+pub fn guarded<S: Copy + Debug + PartialEq>(
+    call: impl FnOnce(&[i16], &mut [u16]) -> BlockAnswer<S>,
+    state: S,
     samples: &[i16],
     length: usize,
     who: impl Fn() -> String,
-) -> Reading {
+) -> Reading<S> {
     let mut lent = Lent::new(length, no_event);
     let answer = call(samples, lent.places());
     let what = || format!("{}: {}", who(), told(state, samples, length));
@@ -128,7 +148,7 @@ pub fn guarded(
 }
 
 /// A call in words, without its many samples.
-fn told(state: Numbers, samples: &[i16], length: usize) -> String {
+pub fn told(state: impl Debug, samples: &[i16], length: usize) -> String {
     let count = samples.len();
     format!("{count} samples from {state:?} into {length} places")
 }
@@ -144,37 +164,60 @@ pub fn compare_through<const N: usize>(
     entries.map(|entry| {
         let found = entry.block(state, samples, length);
         let what = || format!("{entry:?}: {}", told(state, samples, length));
-        assert_eq!(found.answer, expected.answer, "{}", what());
-        assert_eq!(found.places, expected.places, "{}", what());
+        assert_same(&found, &expected, what);
         found
     })
 }
 
-/// Both entries must answer as the reference does. What is returned, and with
-/// it the state that is passed on, is from the lent entry.
-pub fn compare(state: Numbers, samples: &[i16], length: usize) -> Reading {
-    let [_, lent] = compare_through(ENTRIES, state, samples, length);
-    lent
+/// Equal in the answer and in every place.
+pub fn assert_same<S: Debug + PartialEq>(
+    found: &Reading<S>,
+    expected: &Reading<S>,
+    what: impl Fn() -> String,
+) {
+    assert_eq!(found.answer, expected.answer, "{}", what());
+    assert_eq!(found.places, expected.places, "{}", what());
+}
+
+impl BlockState for Numbers {
+    fn places_needed(samples: usize) -> usize {
+        samples / 48 + 1
+    }
+
+    /// Both entries must answer as the reference does. What is returned, and with
+    /// it the state that is passed on, is from the lent entry.
+    fn compare(self, samples: &[i16], length: usize) -> Reading {
+        let [_, lent] = compare_through(ENTRIES, self, samples, length);
+        lent
+    }
+
+    fn spoiled(self, random: &mut Random) -> Numbers {
+        hostile(random, self)
+    }
+}
+
+pub fn compare<S: BlockState>(state: S, samples: &[i16], length: usize) -> Reading<S> {
+    state.compare(samples, length)
 }
 
 /// The same into exactly the places needed. The call must be accepted.
-pub fn compare_accepted(state: Numbers, samples: &[i16]) -> Reading {
-    accepted(compare(state, samples, places_needed(samples.len())))
+pub fn compare_accepted<S: BlockState>(state: S, samples: &[i16]) -> Reading<S> {
+    accepted(compare(state, samples, S::places_needed(samples.len())))
 }
 
 /// The reading, which must be of an accepted call.
-pub fn accepted(reading: Reading) -> Reading {
+pub fn accepted<S: Debug>(reading: Reading<S>) -> Reading<S> {
     assert_eq!(reading.answer.number, 0, "{:?}", reading.answer);
     reading
 }
 
 /// The events of the blocks joined, and the state after the last one. Each
 /// block is read from the state that the one before it left.
-pub fn read_by<'a>(
-    mut state: Numbers,
+pub fn read_by<'a, S: BlockState>(
+    mut state: S,
     blocks: impl IntoIterator<Item = &'a [i16]>,
-    mut read: impl FnMut(Numbers, &'a [i16]) -> Reading,
-) -> (Vec<u16>, Numbers) {
+    mut read: impl FnMut(S, &'a [i16]) -> Reading<S>,
+) -> (Vec<u16>, S) {
     let mut events = Vec::new();
     for samples in blocks {
         let reading = read(state, samples);
@@ -185,10 +228,10 @@ pub fn read_by<'a>(
 }
 
 /// The same when every block must be accepted.
-pub fn read_on<'a>(
-    state: Numbers,
+pub fn read_on<'a, S: BlockState>(
+    state: S,
     blocks: impl IntoIterator<Item = &'a [i16]>,
-) -> (Vec<u16>, Numbers) {
+) -> (Vec<u16>, S) {
     read_by(state, blocks, compare_accepted)
 }
 

@@ -105,6 +105,15 @@ pub fn surrounded(sending: &[i16], before: usize, behind: usize) -> Vec<i16> {
     [&vec![0; before], sending, &vec![0; behind]].concat()
 }
 
+/// Two lines as one, with silence behind the shorter. Each is two thirds as loud, so
+/// that two tones stay in range; what still does not is clipped.
+pub fn mixed(first: &[i16], second: &[i16]) -> Vec<i16> {
+    let at = |line: &[i16], place| i32::from(line.get(place).copied().unwrap_or(0));
+    let sum = |place| (at(first, place) + at(second, place)) * 2 / 3;
+    let sample = |place| sum(place).clamp(-8_191, 8_191) as i16;
+    (0..first.len().max(second.len())).map(sample).collect()
+}
+
 /// Adds to each sample a number of its own, from its place.
 pub fn disturbed(recording: &[i16], mut number: impl FnMut(usize) -> i16) -> Vec<i16> {
     let added = |(place, &sample): (usize, &i16)| {

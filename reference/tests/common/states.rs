@@ -103,28 +103,36 @@ pub fn any_pieces(random: &mut Random, band: u8, count: usize, longest: usize) -
     samples
 }
 
-/// A block of any samples, mostly a short one, and about the places that it
-/// needs. Now and then it is too long, a sample is out of range, or a place is
-/// missing. A band out of range is taken for 1.
+/// A block of any samples, and about the places that it needs. Now and then a place
+/// is missing. A band out of range is taken for 1.
 pub fn any_block(random: &mut Random, band: u8) -> (Vec<i16>, usize) {
     let band = if BANDS.contains(&band) { band } else { 1 };
+    let samples = block_of(random, |random, size| any_samples(random, band, size));
+    let places = (samples.len() / 48 + 2).saturating_sub(random.below(3));
+    (samples, places)
+}
+
+/// A block of the samples that are made, mostly a short one. Now and then it is too
+/// long, or a sample is out of range.
+pub fn block_of(
+    random: &mut Random,
+    make: impl FnOnce(&mut Random, usize) -> Vec<i16>,
+) -> Vec<i16> {
     let size = match random.below(200) {
         0 => 16_383 + random.below(3),
         _ => random.below(200),
     };
-    let mut samples = any_samples(random, band, size);
+    let mut samples = make(random, size);
     if size > 0 && random.below(8) == 0 {
         let bad = [-32_768, -8_192, 8_192, 32_767];
         samples[random.below(size)] = bad[random.below(bad.len())];
     }
-    let places = (size / 48 + 2).saturating_sub(random.below(3));
-    (samples, places)
+    samples
 }
 
-/// Any state in range, mostly waiting; a search or a held break may have any
-/// numbers behind it.
-pub fn good_state(random: &mut Random) -> Numbers {
-    let band = BANDS[random.below(BANDS.len())];
+/// Any state in range of the band, mostly waiting; a search or a held break may have
+/// any numbers behind it.
+pub fn good_state_of(random: &mut Random, band: u8) -> Numbers {
     let window = any_samples(random, band, WINDOW);
     let run = match random.below(3) {
         0 => 32,
@@ -155,9 +163,20 @@ pub fn good_state(random: &mut Random) -> Numbers {
     state
 }
 
+/// The same of any band.
+pub fn good_state(random: &mut Random) -> Numbers {
+    let band = BANDS[random.below(BANDS.len())];
+    good_state_of(random, band)
+}
+
 /// A state in range with one field put out of it.
 pub fn hostile_state(random: &mut Random) -> Numbers {
-    let mut state = good_state(random);
+    let good = good_state(random);
+    hostile(random, good)
+}
+
+/// The state, which is in range, with one field put out of it.
+pub fn hostile(random: &mut Random, mut state: Numbers) -> Numbers {
     match random.below(7) {
         0 => state.band = [0, NO_BAND, NO_BAND + 1, 128, 255][random.below(5)],
         1 => state.run = 33 + random.below(256 - 33) as u8,
@@ -175,7 +194,11 @@ pub fn hostile_state(random: &mut Random) -> Numbers {
 /// A stage that waits with one of its numbers out of range.
 fn hostile_wait(random: &mut Random) -> [u8; 4] {
     match random.below(3) {
-        0 => [1, 0, random.below(10) as u8, 0],
+        0 => {
+            let slot = random.below(10) as u8;
+            let waits = [0, longest_wait(slot) + 1, 255];
+            [1, waits[random.below(waits.len())], slot, 0]
+        }
         1 => [1, 1, 10 + random.below(246) as u8, 0],
         _ => {
             let slot = random.below(9) as u8;

@@ -1,0 +1,6 @@
+pub mod Numbers
+pub mod Merging
+pub mod Order
+pub mod Blocks
+pub mod Parts
+pub mod Lists

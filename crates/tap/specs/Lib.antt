@@ -1,0 +1,4 @@
+pub mod Step
+pub mod Calls
+pub mod Lists
+pub mod AsCoded

@@ -1,0 +1,122 @@
+// A tap on a line that carries both bands: one receiver of each band, fed the same blocks. The events of both go to one list.
+ghost use mathlib.Core.Path.{_≡_};
+ghost use Rattle.calls.specs.Refusals.{firstOf};
+ghost use Rattle.calls.specs.Outcome.{outcome};
+ghost use Rattle.receiver.specs.Calls as receiver;
+ghost use Rattle.tap.specs.Calls.{fresh, isPair, blockTests, blockOf};
+
+mod merge;
+
+use calls::Answer;
+use receiver::MOST_EVENTS;
+use receiver::Receiver;
+
+// The receivers of bands 1 and 2.
+pub struct Tap {
+    pub first: Receiver,
+    pub second: Receiver,
+}
+
+// What a block call answers: the next state, and the number with the count of events.
+pub struct TapReading {
+    pub tap: Tap,
+    pub answer: Answer,
+}
+
+impl Tap {
+    // The fresh receivers of bands 1 and 2.
+    pub fn open() -> Tap
+        ensures { λ r. ⌜ r ≡ fresh ⌝ }
+    {
+        let one = Receiver::open(1);
+        let two = Receiver::open(2);
+        let first = one.receiver;
+        let second = two.receiver;
+        Tap { first, second }
+    }
+
+    // Reads a block of samples with both receivers, each into lists of its own, and merges their events.
+    pub fn block(self, samples: &[i16], events: &mut [u16]) -> TapReading
+        ensures { λ r. ⌜ outcome (r .answer) (r .tap) (now (events .exit))
+            ≡ blockOf self (now (samples .entry)) (now (events .entry)) ⌝ }
+    {
+        let first = self.first;
+        let second = self.second;
+        let mut one = [0u16; MOST_EVENTS];
+        let mut one_at = [0u16; MOST_EVENTS];
+        let mut two = [0u16; MOST_EVENTS];
+        let mut two_at = [0u16; MOST_EVENTS];
+        let read_one = first.block_indexed(samples, &mut one, &mut one_at);
+        let read_two = second.block_indexed(samples, &mut two, &mut two_at);
+        let answer_one = read_one.answer;
+        let answer_two = read_two.answer;
+        let next_one = read_one.receiver;
+        let next_two = read_two.receiver;
+        let number = self.refusal(answer_one.number, answer_two.number, samples, events.len());
+        if number != 0 {
+            return refused(first, second, number);
+        }
+        let m = answer_one.count;
+        let n = answer_two.count;
+        let count = merge::merge(
+            first.band,
+            &one[..m],
+            &one_at[..m],
+            second.band,
+            &two[..n],
+            &two_at[..n],
+            events,
+        );
+        TapReading {
+            tap: Tap {
+                first: next_one,
+                second: next_two,
+            },
+            answer: Answer { number: 0, count },
+        }
+    }
+
+    // The number of the first reason to refuse a block with so many places lent, or 0, from what each receiver answers where it has as many
+    // places as a block can need.
+    fn refusal(self, one: u8, two: u8, samples: &[i16], places: usize) -> u8
+        requires { ⌜ one ≡ firstOf (receiver.blockTests (self .first) (now samples) receiver.mostEvents) ⌝ }
+        requires { ⌜ two ≡ firstOf (receiver.blockTests (self .second) (now samples) receiver.mostEvents) ⌝ }
+        ensures { λ r. ⌜ r ≡ firstOf (blockTests self (now (samples .entry)) places) ⌝ }
+    {
+        if one == 2 {
+            return 2;
+        }
+        if two == 2 {
+            return 2;
+        }
+        if !self.is_pair() {
+            return 2;
+        }
+        if one != 0 {
+            return one;
+        }
+        if places < 2 * (samples.len() / 48 + 1) {
+            return 4;
+        }
+        0
+    }
+
+    // The receivers are those of bands 1 and 2, in this order.
+    fn is_pair(self) -> bool
+        ensures { λ r. ⌜ r ≡ isPair self ⌝ }
+    {
+        let first = self.first;
+        let second = self.second;
+        first.band == 1 && second.band == 2
+    }
+}
+
+// The receivers as handed, beside the number of a refusal.
+fn refused(first: Receiver, second: Receiver, number: u8) -> TapReading
+    ensures { λ r. ⌜ r ≡ record { tap = record { first = first; second = second }; answer = record { number = number; count = 0 } } ⌝ }
+{
+    TapReading {
+        tap: Tap { first, second },
+        answer: Answer { number, count: 0 },
+    }
+}

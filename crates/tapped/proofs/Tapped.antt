@@ -1,0 +1,95 @@
+-- What is sent is what a tap reads in the sending's band, and what is read with indices. From the promise, and from what a receiver gives alone.
+-- Assumes nothing.
+use mathlib.Core.Path.{_≡_, refl, sym, ap, _∙_}
+use mathlib.Core.Bool.{true}
+use mathlib.Core.List.{List, [], _∷_, _++_, map}
+use mathlib.Mathlib.Data.Bool.Basic.{and-elim-left, and-elim-right}
+use Prim.Native.Nat.{ℕ, _≤_}
+use native.Mathlib.Omega.{arith}
+use lib.IntN.{ℤ}
+use lib.ListN.{length, replicate, length-replicate}
+use Rattle.integers.specs.All.{All, none, more}
+use Rattle.calls.specs.Runs.{after}
+use Rattle.calls.specs.Lists.{each}
+use Rattle.calls.proofs.Indexed.{indexed-values}
+use Rattle.calls.proofs.Lists.{joined-each, Accepts, all-accepted}
+use Rattle.tones.specs.Samples.{mostSamples, areSamples}
+use Rattle.tones.proofs.Samples.{samples-append}
+use Rattle.transmitter.specs.Calls as transmitter
+use Rattle.receiver.specs.Step.{afterSample, eventsAt, eventsAfter}
+use Rattle.receiver.specs.Calls as receiver
+use Rattle.receiver.specs.Lists as reading
+use Rattle.receiver.proofs.Lists.{one-reading}
+use Rattle.receiver.proofs.Indexed.{indexed-reading}
+use Rattle.tap.specs.declared.Tap.{Tap}
+use Rattle.tap.specs.Calls as tap
+use Rattle.tap.specs.Lists as tapping
+use Rattle.tap.proofs.Blocks.{both-accepted}
+use Rattle.tap.proofs.Lists.{both-directions, fresh-band, fresh-kept}
+use Rattle.margin.specs.Windows.{disturbance}
+use Rattle.promise.specs.Recordings.{Transmission, characters}
+use Rattle.promise.proofs.Promise.{all-read}
+use Rattle.promise.proofs.Possible.{recorded-samples}
+use Rattle.tapped.specs.Tapped.{Tapped, ReadOnTap, tapCalls, TapsPossible, Indexed, ReadWithIndices}
+
+-- what the receiver of the band gives over the recording is what was sent
+recorded-events : (t : Transmission disturbance) → eventsAfter (receiver.fresh (t .band)) (t .recorded) ≡ characters t
+recorded-events t =
+    ap (eventsAfter (receiver.fresh (t .band))) (sym (t .read))
+    ∙ sym (one-reading (receiver.fresh (t .band)) (t .blocks) .events)
+    ∙ all-read t t .first
+
+-- ---- a tap
+
+pub read-on-tap : (t : Tapped disturbance) → ReadOnTap t
+read-on-tap t =
+    let band : ℕ = t .transmission .band in
+    fresh-band band (t .transmission .known) (t .calls)
+    ∙ ap (eventsAfter (receiver.fresh band)) (t .read)
+    ∙ recorded-events (t .transmission)
+
+-- a call that is accepted from every state in its ranges
+record Fits (c : tapping.Call) : Type 0 where
+  few : length (c .samples) ≤ mostSamples
+  samples : areSamples (c .samples) ≡ true
+  room : tap.placesFor (length (c .samples)) ≤ length (c .lent)
+
+accepts : (t : Tap) (c : tapping.Call) → tap.inRange t ≡ true → Fits c → Accepts (λ (u : Tap). tap.inRange u ≡ true) (tapping.callOf t c)
+unfolding after
+accepts t c h f =
+    record { yes = both-accepted t (c .samples) (c .lent) (record { ranged = h; few = f .few; sound = f .samples; room = f .room }); kept = both-directions t (c ∷ []) .range h }
+
+abbrev joined : List (List ℤ) → List ℤ
+joined = each (λ block. block)
+
+calls-fit : (blocks : List (List ℤ)) → All (λ block. length block ≤ mostSamples) blocks → areSamples (joined blocks) ≡ true → All Fits (tapCalls blocks)
+calls-fit [] none h = none
+calls-fit (xs ∷ blocks) (more l ls) h =
+    let both = sym (samples-append xs (joined blocks)) ∙ h in
+    let places : ℕ = tap.placesFor (length xs) in
+    let room : places ≤ length (replicate {A = ℕ} places 0) = omega (arith, length-replicate {A = ℕ} places 0) in
+    more (record { few = l; samples = and-elim-left (areSamples xs) (areSamples (joined blocks)) both; room = room })
+    (calls-fit blocks ls (and-elim-right (areSamples xs) (areSamples (joined blocks)) both))
+
+calls-samples : (blocks : List (List ℤ)) → each (λ (c : tapping.Call). c .samples) (tapCalls blocks) ≡ joined blocks
+calls-samples [] = refl
+calls-samples (xs ∷ blocks) = ap (λ (l : List ℤ). xs ++ l) (calls-samples blocks)
+
+pub taps-possible : TapsPossible
+taps-possible t blocks short whole =
+    joined-each tapping.callOf (λ (c : tapping.Call). c .samples) tap.fresh (tapCalls blocks)
+    ∙ ap (each (λ (c : tapping.Call). c .samples))
+    (all-accepted tapping.callOf (λ (u : Tap). tap.inRange u ≡ true) Fits accepts (tapCalls blocks)
+    (calls-fit blocks short (ap areSamples whole ∙ recorded-samples (transmitter.fresh (t .band)) (t .sent) (t .recorded) (t .recording))) tap.fresh fresh-kept)
+    ∙ calls-samples blocks
+    ∙ whole
+
+-- ---- indices
+
+pub read-with-indices : (t : Indexed disturbance) → ReadWithIndices t
+read-with-indices t =
+    let s = receiver.fresh (t .transmission .band) in
+    ap (map (λ (e : ℕ × ℕ). e .0)) (indexed-reading s (t .calls) .events)
+    ∙ indexed-values afterSample eventsAt 0 s (reading.samplesRead s (map reading.withoutIndices (t .calls)))
+    ∙ ap (eventsAfter s) (t .read)
+    ∙ recorded-events (t .transmission)

@@ -1,0 +1,18 @@
+-- `tapping::modem_tap_open` meets its contract.
+-- Assumes nothing.
+use mathlib.Core.Path.{ap, _∙_}
+use Rattle.tapping.specs.Numbers.{tapNumbers}
+use Rattle.tapping.proofs.modem_tap_open.Statement.{statement}
+use Rattle.tapping.proofs.modem_tap_open.Tie as tie
+
+open-requires : tie.Need-open-requires
+open-requires c κs = tt
+
+numbers-of-requires : tie.Need-numbers-of-requires
+numbers-of-requires c κs = tt
+
+returns : tie.Need-returns
+returns c = c .numbers-of .ensures ∙ ap tapNumbers (c .before .«open» .ensures)
+
+pub modem-tap-open-spec : {M : Type 1} → statement M
+modem-tap-open-spec = tie.close (tie.spec open-requires numbers-of-requires returns)

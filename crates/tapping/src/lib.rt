@@ -1,0 +1,82 @@
+// The tap for programs in other languages. A state is handed in, and handed back, as the numbers of its two receivers, by value.
+ghost use mathlib.Core.Path.{_≡_};
+ghost use Rattle.calls.specs.Outcome.{answerOf, outcome};
+ghost use Rattle.tap.specs.Calls.{fresh};
+ghost use Rattle.tapping.specs.Numbers.{tapOf, tapNumbers, readingNumbers, blockNumbers};
+use receiving::State;
+use tap::Tap;
+use tap::TapReading;
+
+// The receivers of bands 1 and 2.
+#[repr(C)]
+pub struct Taps {
+    pub first: State,
+    pub second: State,
+}
+
+// What a block call answers: the next state, the number, and the count of events.
+#[repr(C)]
+pub struct TapBlock {
+    pub tap: Taps,
+    pub number: u8,
+    pub count: usize,
+}
+
+// The fresh receivers of bands 1 and 2.
+#[no_mangle]
+pub extern "C" fn modem_tap_open() -> Taps
+    ensures { λ r. ⌜ r ≡ tapNumbers fresh ⌝ }
+{
+    numbers_of(Tap::open())
+}
+
+// Reads a block of samples with both receivers. A refused call gives back the state as it was handed.
+#[no_mangle]
+pub extern "C" fn modem_tap_block(tap: Taps, samples: &[i16], events: &mut [u16]) -> TapBlock
+    ensures { λ r. ⌜ outcome (answerOf (r .number) (r .count)) (r .tap) (now (events .exit))
+        ≡ blockNumbers tap (now (samples .entry)) (now (events .entry)) ⌝ }
+{
+    let reading = tap_of(tap).block(samples, events);
+    reading_numbers(reading, tap)
+}
+
+// What is handed back of a reading: the next state if the call was accepted, and the state as it was handed if not.
+fn reading_numbers(reading: TapReading, handed: Taps) -> TapBlock
+    ensures { λ r. ⌜ r ≡ readingNumbers reading handed ⌝ }
+{
+    let answer = reading.answer;
+    let next = reading.tap;
+    let tap = if answer.number == 0 {
+        numbers_of(next)
+    } else {
+        handed
+    };
+    TapBlock {
+        tap,
+        number: answer.number,
+        count: answer.count,
+    }
+}
+
+// The state of its numbers.
+fn tap_of(taps: Taps) -> Tap
+    ensures { λ r. ⌜ r ≡ tapOf taps ⌝ }
+{
+    let first = taps.first;
+    let second = taps.second;
+    Tap {
+        first: receiving::receiver_of(first),
+        second: receiving::receiver_of(second),
+    }
+}
+
+fn numbers_of(tap: Tap) -> Taps
+    ensures { λ r. ⌜ r ≡ tapNumbers tap ⌝ }
+{
+    let first = tap.first;
+    let second = tap.second;
+    Taps {
+        first: receiving::numbers_of(first),
+        second: receiving::numbers_of(second),
+    }
+}

@@ -1,0 +1,101 @@
+//! A tap's call made on either side, and compared.
+
+use super::met::{kinds, Kinds};
+use super::receiver::{assert_same, fresh, guarded, in_numbers, told, BlockState, Reading};
+use super::states::good_state_of;
+use super::{Side, SIDES};
+use reference::library::{self, Numbers, Tap};
+use reference::random::Random;
+use reference::tap;
+
+/// The bands of a tap.
+pub const TAP_BANDS: [u8; 2] = [1, 2];
+
+/// The fresh state, opened on both sides.
+pub fn open() -> Tap {
+    let expected = tapped(fresh(1), fresh(2));
+    assert_eq!(Tap::from(tap::open()), expected);
+    assert_eq!(library::tap_open(), expected);
+    expected
+}
+
+pub fn tapped(first: Numbers, second: Numbers) -> Tap {
+    Tap { first, second }
+}
+
+/// Any state in range. The windows seldom agree, as they would behind a line.
+pub fn good_tap(random: &mut Random) -> Tap {
+    let [first, second] = TAP_BANDS.map(|band| good_state_of(random, band));
+    tapped(first, second)
+}
+
+/// A receiver's events as a tap tells them.
+pub fn of_tap(band: u8, events: &[u16]) -> Vec<u16> {
+    let told = |&event: &u16| 1_000 * u16::from(band) + event;
+    events.iter().map(told).collect()
+}
+
+/// The events of a band among those of a tap, as a receiver tells them.
+pub fn of_band(band: u8, events: &[u16]) -> Vec<u16> {
+    let own = events
+        .iter()
+        .filter(|&&event| event / 1_000 == u16::from(band));
+    own.map(|&event| event % 1_000).collect()
+}
+
+/// How many events of each kind either band has.
+pub fn kinds_of(events: &[u16]) -> [Kinds; 2] {
+    TAP_BANDS.map(|band| kinds(&of_band(band, events)))
+}
+
+/// Makes the call with `length` lent places, and checks what holds of every call.
+fn block(side: Side, tap: Tap, samples: &[i16], length: usize) -> Reading<Tap> {
+    let call = |samples: &[i16], events: &mut [u16]| match side {
+        Side::Reference => in_numbers(tap::block, tap, samples, events),
+        Side::Library => library::tap_block(tap, samples, events),
+    };
+    guarded(call, tap, samples, length, || format!("{side:?}"))
+}
+
+/// Taken apart, the events and the next state of an accepted call are those that
+/// the library's receivers give by themselves, and there are no others.
+fn assert_apart(tap: Tap, samples: &[i16], reading: &Reading<Tap>) {
+    let (all, next) = (reading.events(), reading.answer.state);
+    let mut count = 0;
+    for (handed, next) in [(tap.first, next.first), (tap.second, next.second)] {
+        let what = || format!("{} alone of {tap:?}, {}", handed.band, samples.len());
+        let mut events = vec![0; samples.len() / 48 + 1];
+        let alone = library::receiver_block(handed, samples, &mut events);
+        assert_eq!((alone.number, alone.state), (0, next), "{}", what());
+        let own = of_band(handed.band, all);
+        assert_eq!(own, events[..alone.count], "{}", what());
+        count += alone.count;
+    }
+    assert_eq!(all.len(), count, "{all:?}");
+}
+
+impl BlockState for Tap {
+    fn places_needed(samples: usize) -> usize {
+        2 * (samples / 48 + 1)
+    }
+
+    fn compare(self, samples: &[i16], length: usize) -> Reading<Tap> {
+        let [expected, found] = SIDES.map(|side| block(side, self, samples, length));
+        assert_same(&found, &expected, || told(self, samples, length));
+        if found.answer.number == 0 {
+            assert_apart(self, samples, &found);
+        }
+        found
+    }
+
+    /// A receiver is out of its range, or of another band.
+    fn spoiled(self, random: &mut Random) -> Tap {
+        let Tap { first, second } = self;
+        match random.below(6) {
+            0 | 1 => tapped(first.spoiled(random), second),
+            2 | 3 => tapped(first, second.spoiled(random)),
+            4 => tapped(second, first),
+            _ => [tapped(first, first), tapped(second, second)][random.below(2)],
+        }
+    }
+}

@@ -1,0 +1,157 @@
+//! The order of a tap's events: that of the samples, and of one sample band 1 before
+//! band 2.
+
+use crate::common::indexed::compare_accepted as located;
+use crate::common::receiver::{compare_accepted, fresh, BREAK, CARRIER_LOST, NO_STOP_BIT, WINDOW};
+use crate::common::recording::{keyed, mixed, sending};
+use crate::common::states::{any_samples, byte_limit, window_of};
+use crate::common::tap::{good_tap, of_tap, open, tapped, TAP_BANDS};
+use reference::library::{Numbers, Tap};
+use reference::random::Random;
+
+/// A receiver that waits: for so many samples, for a slot, with a byte.
+fn waiting(band: u8, window: [i16; WINDOW], [wait, slot, byte]: [u8; 3]) -> Numbers {
+    Numbers {
+        window,
+        ..fresh(band).with_stage([1, wait, slot, byte])
+    }
+}
+
+/// The two events in their order, if the first band waits for `waits[0]` samples and
+/// the second for `waits[1]`, and those alone that a block of `count` samples has.
+fn in_order(waits: [u8; 2], [first, second]: [u16; 2], count: usize) -> Vec<u16> {
+    let mut events = vec![(waits[0], 1_000 + first), (waits[1], 2_000 + second)];
+    if waits[1] < waits[0] {
+        events.reverse();
+    }
+    events.retain(|&(wait, _)| usize::from(wait) <= count);
+    events.into_iter().map(|(_, event)| event).collect()
+}
+
+/// Blocks that end before, at and behind either event, from every pair of waits.
+fn every_pair_of_waits(samples: &[i16], mut make: impl FnMut([u8; 2]) -> (Tap, [u16; 2])) {
+    for first in 1..=32 {
+        for second in 1..=32 {
+            let waits = [first, second];
+            let (tap, events) = make(waits);
+            let ends = waits.map(usize::from);
+            for count in [0, ends[0] - 1, ends[0], ends[1] - 1, ends[1], samples.len()] {
+                let reading = compare_accepted(tap, &samples[..count]);
+                let expected = in_order(waits, events, count);
+                assert_eq!(reading.events(), expected, "{waits:?}, {count} samples");
+            }
+        }
+    }
+}
+
+/// Both lose their carrier, at data bits or stop bits.
+#[test]
+fn two_lost_carriers() {
+    let mut random = Random::new(87);
+    every_pair_of_waits(&[0; 40], |waits| {
+        let [first, second] = TAP_BANDS.map(|band| {
+            let slot = 1 + random.below(9) as u8;
+            let byte = random.below(byte_limit(slot)) as u8;
+            let wait = waits[usize::from(band) - 1];
+            waiting(band, [0; WINDOW], [wait, slot, byte])
+        });
+        (tapped(first, second), [CARRIER_LOST; 2])
+    });
+}
+
+/// Mark is on the line in both bands, and either tells a character.
+#[test]
+fn two_characters() {
+    let mut random = Random::new(88);
+    let [first, second] = TAP_BANDS.map(|band| keyed(band, &[1; 4]));
+    let line = mixed(&first, &second);
+    let (window, samples) = line.split_at(WINDOW);
+    let window = window.try_into().expect("a whole window");
+    every_pair_of_waits(&samples[..40], |waits| {
+        let bytes = [(); 2].map(|()| random.below(256) as u8);
+        let first = waiting(1, window, [waits[0], 9, bytes[0]]);
+        let second = waiting(2, window, [waits[1], 9, bytes[1]]);
+        (tapped(first, second), bytes.map(u16::from))
+    });
+}
+
+/// A receiver that tells an event with the next sample: a character, no stop bit, a
+/// lost carrier or a break.
+fn about_to_tell(band: u8, byte: u8, kind: usize) -> (Numbers, u16) {
+    let [space, mark] = [0, 1].map(|bit| window_of(band, bit, 1));
+    let (window, byte, event) = match kind {
+        0 => (mark, byte, u16::from(byte)),
+        1 => (space, byte.max(1), NO_STOP_BIT),
+        2 => ([0; WINDOW], byte, CARRIER_LOST),
+        _ => (space, 0, BREAK),
+    };
+    (waiting(band, window, [1, 9, byte]), event)
+}
+
+/// Every kind of event in either band, by one sample.
+#[test]
+fn two_events_of_every_kind() {
+    for byte in 0..=255 {
+        for first in 0..4 {
+            for second in 0..4 {
+                let (one, first) = about_to_tell(1, byte, first);
+                let (other, second) = about_to_tell(2, 255 - byte, second);
+                for samples in [&[0][..], &[0; 40]] {
+                    let reading = compare_accepted(tapped(one, other), samples);
+                    let expected = [1_000 + first, 2_000 + second];
+                    assert_eq!(reading.events(), expected, "{byte}");
+                }
+            }
+        }
+    }
+}
+
+/// The events of either receiver with their samples, put in order: by the sample, and
+/// of one sample by the band. They must be those of the tap. Returns how many samples
+/// have two.
+fn put_together(tap: Tap, samples: &[i16]) -> usize {
+    let mut all = Vec::new();
+    for state in [tap.first, tap.second] {
+        let alone = located(state, samples);
+        let events = of_tap(state.band, alone.reading.events());
+        let indices = alone.indices().iter().copied();
+        all.extend(indices.zip(events));
+    }
+    // An event of band 1 is below one of band 2.
+    all.sort();
+    let expected: Vec<u16> = all.iter().map(|&(_, event)| event).collect();
+    let reading = compare_accepted(tap, samples);
+    assert_eq!(reading.events(), expected, "{tap:?}");
+    all.windows(2).filter(|pair| pair[0].0 == pair[1].0).count()
+}
+
+/// Sendings that begin with the same sample have many events with the same one.
+#[test]
+fn sendings_in_step() {
+    let mut random = Random::new(89);
+    let mut ties = 0;
+    for _ in 0..60 {
+        let [first, second] = TAP_BANDS.map(|band| sending(band, &random.bytes(10)));
+        ties += put_together(open(), &mixed(&first, &second));
+    }
+    assert!(ties >= 20, "{ties}");
+}
+
+/// From any state, over silence, noise and tones. Receivers that both wait often wait
+/// for the same sample.
+#[test]
+fn random_states() {
+    let mut random = Random::new(90);
+    let mut ties = 0;
+    for _ in 0..5_000 {
+        let mut tap = good_tap(&mut random);
+        if [tap.first.stage, tap.second.stage] == [1, 1] && random.below(2) == 0 {
+            let wait = tap.first.wait.min(tap.second.wait);
+            (tap.first.wait, tap.second.wait) = (wait, wait);
+        }
+        let count = random.below(400);
+        let [first, second] = TAP_BANDS.map(|band| any_samples(&mut random, band, count));
+        ties += put_together(tap, &mixed(&first, &second));
+    }
+    assert!(ties >= 100, "{ties}");
+}
