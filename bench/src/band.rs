@@ -137,7 +137,7 @@ impl Band<'_> {
 
     fn small_blocks(&self, long: &Recording) -> bool {
         let mut entries = vec![in_blocks(SMALL, long)];
-        entries.extend(spandsp(long, SMALL, Bar::at_least(2.5)));
+        entries.extend(spandsp(long, SMALL, Bar::at_least(4.0)));
         self.print(&format!("blocks of {SMALL}"), Unit::Speed, &entries)
     }
 

@@ -24,15 +24,15 @@ pub trait Reader {
     fn read(&self, recording: &Recording) -> Reading;
 }
 
-/// How to open a band, how to read a block, which gives the number, the count
-/// and the next state, and how many samples a block has.
+/// How to open a band, how to read a block, which gives the number and the count
+/// and leaves the next state where the state was, and how many samples a block has.
 struct Blocks<S, B> {
     open: fn(u8) -> (u8, S),
     block: B,
     size: usize,
 }
 
-impl<S, B: Fn(S, &[i16], &mut [u16]) -> (u8, usize, S)> Blocks<S, B> {
+impl<S, B: Fn(&mut S, &[i16], &mut [u16]) -> (u8, usize)> Blocks<S, B> {
     /// Leaves the events in the list, one call's behind the other's, and
     /// returns how many there are.
     fn read_all(&self, band: u8, samples: &[i16], events: &mut [u16]) -> usize {
@@ -40,10 +40,9 @@ impl<S, B: Fn(S, &[i16], &mut [u16]) -> (u8, usize, S)> Blocks<S, B> {
         assert_eq!(number, 0);
         let mut count = 0;
         for samples in cut(samples, self.size) {
-            let (number, more, next) = (self.block)(state, samples, &mut events[count..]);
+            let (number, more) = (self.block)(&mut state, samples, &mut events[count..]);
             assert_eq!(number, 0);
             count += more;
-            state = next;
         }
         count
     }
@@ -55,7 +54,7 @@ fn cut(samples: &[i16], size: usize) -> impl Iterator<Item = &[i16]> {
     (0..blocks).map(move |i| &samples[i * size..samples.len().min((i + 1) * size)])
 }
 
-impl<S, B: Fn(S, &[i16], &mut [u16]) -> (u8, usize, S)> Reader for Blocks<S, B> {
+impl<S, B: Fn(&mut S, &[i16], &mut [u16]) -> (u8, usize)> Reader for Blocks<S, B> {
     /// The events must be those of the recording, so that no work is left out.
     fn read(&self, recording: &Recording) -> Reading {
         // The last call still gets as many places as a whole block needs, also from
@@ -78,9 +77,10 @@ impl<S, B: Fn(S, &[i16], &mut [u16]) -> (u8, usize, S)> Reader for Blocks<S, B> 
 pub fn library(size: usize) -> impl Reader {
     Blocks {
         open: library::receiver_open,
-        block: |state, samples: &[i16], events: &mut [u16]| {
-            let answer = library::receiver_block(state, samples, events);
-            (answer.number, answer.count, answer.state)
+        block: |state: &mut library::Numbers, samples: &[i16], events: &mut [u16]| {
+            let answer = library::receiver_block(*state, samples, events);
+            *state = answer.state;
+            (answer.number, answer.count)
         },
         size,
     }
@@ -90,9 +90,10 @@ pub fn library(size: usize) -> impl Reader {
 pub fn tap(size: usize) -> impl Reader {
     Blocks {
         open: |_| (0, library::tap_open()),
-        block: |tap, samples: &[i16], events: &mut [u16]| {
-            let answer = library::tap_block(tap, samples, events);
-            (answer.number, answer.count, answer.state)
+        block: |tap: &mut library::Tap, samples: &[i16], events: &mut [u16]| {
+            let answer = library::tap_block(*tap, samples, events);
+            *tap = answer.state;
+            (answer.number, answer.count)
         },
         size,
     }
@@ -104,9 +105,10 @@ pub type Block = fn(&Sines, State, &[i16], &mut [u16]) -> Answer;
 pub fn reference(sines: &Sines, block: Block, size: usize) -> impl Reader + '_ {
     Blocks {
         open: receiver::open,
-        block: move |state, samples: &[i16], events: &mut [u16]| {
-            let answer = block(sines, state, samples, events);
-            (answer.number, answer.count, answer.state)
+        block: move |state: &mut State, samples: &[i16], events: &mut [u16]| {
+            let answer = block(sines, *state, samples, events);
+            *state = answer.state;
+            (answer.number, answer.count)
         },
         size,
     }

@@ -28,6 +28,7 @@ mod picture;
 mod pipes;
 mod programs;
 mod random_calls;
+mod read_only;
 mod receiver_bursts;
 mod receiver_cuts;
 mod receiver_disturbances;

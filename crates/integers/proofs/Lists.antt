@@ -87,6 +87,11 @@ module _ {A : Type 0} where
 
 -- a part of a map is the map of the part
 module _ {A B : Type 0} (f : A → B) where
+  pub map-at : (l : List A) (k : ℕ) (d : A) (e : B) → k < length l → getD (map f l) k e ≡ f (getD l k d)
+  map-at [] k d e h = absurd (not-suc-le-zero h)
+  map-at (x ∷ l) zero d e h = refl
+  map-at (x ∷ l) (suc k) d e h = map-at l k d e (le-of-suc-le-suc h)
+
   pub map-take : (n : ℕ) (l : List A) → map f (take n l) ≡ take n (map f l)
   map-take zero l = refl
   map-take (suc n) [] = refl

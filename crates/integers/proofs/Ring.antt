@@ -2,6 +2,7 @@
 -- Assumes nothing.
 use mathlib.Core.Path.{_≡_, refl, sym, ap, _∙_}
 use Prim.Native.Nat.{zero, suc}
+use native.Mathlib.Nat.{mul-one, mul-zero}
 use lib.IntN.{ℤ, pos, negsuc, sucℤ, predℤ, negℤ, _+ℤ_, _*ℤ_}
 use lib.IntN.{+ℤ-assoc, +ℤ-comm, +ℤ-idl, sucℤ-+ℤ, predℤ-+ℤ, sucℤ-*ℤ, predℤ-*ℤ, zero-*ℤ, negℤ-negℤ}
 
@@ -35,3 +36,16 @@ negℤ-*ℤ (pos (suc n)) (pos b) = refl
 negℤ-*ℤ (pos (suc n)) (negsuc b) = rw negℤ-negℤ
 negℤ-*ℤ (negsuc n) (pos b) = rw negℤ-negℤ
 negℤ-*ℤ (negsuc n) (negsuc b) = refl
+
+-- times 1, -1 and 0
+pub *ℤ-one : (z : ℤ) → z *ℤ pos 1 ≡ z
+*ℤ-one (pos n) = rw mul-one
+*ℤ-one (negsuc n) = rw mul-one
+
+pub *ℤ-minus-one : (z : ℤ) → z *ℤ negsuc 0 ≡ negℤ z
+*ℤ-minus-one (pos n) = rw mul-one
+*ℤ-minus-one (negsuc n) = rw mul-one
+
+pub *ℤ-zero : (z : ℤ) → z *ℤ pos 0 ≡ pos 0
+*ℤ-zero (pos n) = rw mul-zero
+*ℤ-zero (negsuc n) = rw mul-zero

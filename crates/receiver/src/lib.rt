@@ -23,10 +23,11 @@ use control::Stage;
 // The most events of a block: the places that the longest one needs.
 pub const MOST_EVENTS: usize = tones::MOST_SAMPLES / 48 + 1;
 
-// A band, the last 32 samples, oldest first, the run of samples with a good level, and the stage.
+// The last 32 samples, oldest first, a band, the run of samples with a good level, and the stage. The samples stand first, since copies of
+// a state are quicker so.
 pub struct Receiver {
-    pub band: u8,
     pub window: [i16; 32],
+    pub band: u8,
     pub run: u8,
     pub stage: Stage,
 }

@@ -95,14 +95,16 @@ fn reading_numbers(reading: Reading, handed: State) -> Block
     ensures { λ r. ⌜ r ≡ readingNumbers reading handed ⌝ }
 {
     let answer = reading.answer;
+    if answer.number != 0 {
+        return Block {
+            receiver: handed,
+            number: answer.number,
+            count: answer.count,
+        };
+    }
     let next = reading.receiver;
-    let receiver = if answer.number == 0 {
-        numbers_of(next)
-    } else {
-        handed
-    };
     Block {
-        receiver,
+        receiver: numbers_of(next),
         number: answer.number,
         count: answer.count,
     }

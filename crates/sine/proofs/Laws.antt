@@ -90,6 +90,17 @@ S-mirror p q e = sym (S-mod p) ∙ go (p % 1920) (q % 1920) (omega arith) (omega
         ap S (sym f) ∙ S-opposite (a - 960) ∙ ap negℤ (mirror-half (a - 960) (b - 960) (omega arith)) ∙ sym (S-opposite (b - 960)) ∙ ap S g)
         (λ l. mirror-half a b (omega arith))
 
+-- ---- each half from the first quarter
+
+quartered : (h : ℕ) → half h ≡ S (min h (960 - h))
+quartered h = half-mirrored h ∙ sym (S-nearest (min h (960 - h)) (omega arith))
+
+pub S-first-half : (p : ℕ) → p % 1920 < 960 → S p ≡ S (min (p % 960) (960 - p % 960))
+S-first-half p h = S-first p h ∙ quartered (p % 960)
+
+pub S-second-half : (p : ℕ) → 960 ≤ p % 1920 → S p ≡ negℤ (S (min (p % 960) (960 - p % 960)))
+S-second-half p h = S-second p h ∙ ap negℤ (quartered (p % 960))
+
 -- ---- the bound, from the tests of the quarter
 
 half-bound : (h : ℕ) → natAbs (half h) ≤ 6000

@@ -1,19 +1,18 @@
--- Laws of `weightsOf`: its length, the size of its entries, its four parts, and how a list is filled with two of them at a time.
+-- Laws of `weightsOf`: its length, the size of its entries, its 128 phases, and its four parts.
 -- Assumes nothing.
 use mathlib.Core.Path.{_≡_, refl, sym, _∙_, ap}
-use mathlib.Core.List.{List, _++_, append-assoc}
-use Prim.Native.Nat.{ℕ, suc, _+_, _<_, _≤_}
-use native.Mathlib.Nat.{add-zero, add-suc, suc-add}
-use native.Mathlib.Numerals.{add-one}
+use mathlib.Core.List.{List, _++_, append-assoc, map, map-append}
+use Prim.Native.Nat.{ℕ, _+_}
 use native.Mathlib.Omega.{arith}
-use lib.IntN.{ℤ, pos}
-use lib.ListN.{length, getD, take, drop, set, length-append, length-set, length-drop, drop-of-length-le}
-use lib.Seq.{sets, take-at, take-all, drop-append-add, drop-cons}
+use lib.IntN.{ℤ}
+use lib.ListN.{length, take, drop, length-append, length-map}
+use lib.Seq.{sets, take-at, take-all, drop-append-add}
 use Rattle.integers.specs.Sums.{Bounded}
 use Rattle.integers.proofs.Sums.{bounded-append}
-use Rattle.integers.proofs.Lists.{sets-append, set-sets, sets-whole}
-use Rattle.sine.specs.Wave.{wave, quadratureOf, weightsOf}
-use Rattle.sine.proofs.Wave.{length-wave, wave-bound}
+use Rattle.integers.proofs.Lists.{sets-append, sets-whole}
+use Rattle.sine.specs.Sine.{S}
+use Rattle.sine.specs.Wave.{phases, wave, quadratureOf, weightsOf}
+use Rattle.sine.proofs.Wave.{length-wave, wave-bound, length-phases, map-phases}
 
 -- they are four waves, one behind the other
 in-order : (a b : ℕ) → weightsOf a b ≡ wave 32 a 480 ++ (wave 32 a 0 ++ (wave 32 b 480 ++ wave 32 b 0))
@@ -36,13 +35,50 @@ pub weights-bound : (a b : ℕ) → Bounded 6000 (weightsOf a b)
 unfolding weightsOf
 weights-bound a b = bounded-append _ _ (quadrature-bound a) (quadrature-bound b)
 
--- those of the first stored over a list l of 128, which gives m, and those of the second behind them, which gives n
-pub weights-stored : (l : List ℤ) {m n : List ℤ} (a b : ℕ) → length l ≡ 128 → m ≡ sets l 0 (quadratureOf a) → n ≡ sets m 64 (quadratureOf b)
-    → n ≡ weightsOf a b
-unfolding weightsOf
-weights-stored l a b e first second =
-    let both = rw (length-quadrature a, ← first) at (sets-append l 0 (quadratureOf a) (quadratureOf b)) in
-    second ∙ sym both ∙ sets-whole (quadratureOf a ++ quadratureOf b) l (length-weights a b ∙ sym e)
+-- ---- the weights as the sines of their 128 phases
+
+abbrev pub bank : ℕ → ℕ → List ℕ
+bank a b = phases 32 a 480 ++ (phases 32 a 0 ++ (phases 32 b 480 ++ phases 32 b 0))
+
+pub length-bank : (a b : ℕ) → length (bank a b) ≡ 128
+length-bank a b =
+    rw (
+      length-append (phases 32 a 480) (phases 32 a 0 ++ (phases 32 b 480 ++ phases 32 b 0)),
+      length-append (phases 32 a 0) (phases 32 b 480 ++ phases 32 b 0),
+      length-append (phases 32 b 480) (phases 32 b 0),
+      length-phases 32 a 480,
+      length-phases 32 a 0,
+      length-phases 32 b 480,
+      length-phases 32 b 0,
+    ) refl
+
+-- numbers of the 128 phases that are stored one part behind the other, over a list l of 128
+module _ {B : Type 0} (f : ℕ → B) where
+  abbrev part : ℕ → ℕ → List B
+  part s p = map f (phases 32 s p)
+
+  length-part : (s p : ℕ) → length (part s p) ≡ 32
+  length-part s p = length-map (phases 32 s p) f ∙ length-phases 32 s p
+
+  behind-part : (s p : ℕ) (l : List B) (i : ℕ) (ys : List B) → sets l i (part s p ++ ys) ≡ sets (sets l i (part s p)) (i + 32) ys
+  behind-part s p l i ys = rw (length-part s p) at (sets-append l i (part s p) ys)
+
+  in-parts : (a b : ℕ) → map f (bank a b) ≡ part a 480 ++ (part a 0 ++ (part b 480 ++ part b 0))
+  in-parts a b =
+      map-append f (phases 32 a 480) (phases 32 a 0 ++ (phases 32 b 480 ++ phases 32 b 0))
+      ∙ ap (λ (xs : List B). part a 480 ++ xs)
+      (map-append f (phases 32 a 0) (phases 32 b 480 ++ phases 32 b 0)
+      ∙ ap (λ (xs : List B). part a 0 ++ xs) (map-append f (phases 32 b 480) (phases 32 b 0)))
+
+  pub stored : (l : List B) {m₁ m₂ m₃ m₄ : List B} (a b : ℕ) → length l ≡ 128 → m₁ ≡ sets l 0 (part a 480) → m₂ ≡ sets m₁ 32 (part a 0)
+      → m₃ ≡ sets m₂ 64 (part b 480) → m₄ ≡ sets m₃ 96 (part b 0) → m₄ ≡ map f (bank a b)
+  stored l a b e e₁ e₂ e₃ e₄ =
+      e₄ ∙ ap (λ (m : List B). sets m 96 (part b 0)) (e₃ ∙ ap (λ (m : List B). sets m 64 (part b 480)) (e₂ ∙ ap (λ (m : List B). sets m 32 (part a 0)) e₁))
+      ∙ sym (ap (sets l 0) (in-parts a b) ∙ behind-part a 480 l 0 _ ∙ behind-part a 0 _ 32 _ ∙ behind-part b 480 _ 64 _)
+      ∙ sets-whole (map f (bank a b)) l (length-map (bank a b) f ∙ length-bank a b ∙ sym e)
+
+pub map-bank : (a b : ℕ) → map S (bank a b) ≡ weightsOf a b
+map-bank a b = in-parts S a b ∙ rw (map-phases 32 a 480, map-phases 32 a 0, map-phases 32 b 480, map-phases 32 b 0) (sym (in-order a b))
 
 -- ---- the four parts
 
@@ -72,28 +108,3 @@ weights-parts a b =
       second-cosines = ap (take 32) (to32 32 from32 ∙ to64 0 from64) ∙ front b 480 from96;
       second-sines = ap (take 32) (to32 64 from32 ∙ to64 32 from64 ∙ behind b 480 0 from96) ∙ take-all 32 from96 (omega (arith, length-wave 32 b 0));
     }
-
--- ---- a list that is filled two places at a time
-
--- `lent` is to get xs, which are n, from a place on and ys behind them; it is `now`, and has the first j of each
-pub record Made (lent : List ℤ) (at n : ℕ) (xs ys now : List ℤ) (j : ℕ) : Type 0 where
-  pub long : length now ≡ length lent
-  pub whole : sets (sets now (at + j) (drop j xs)) (at + j + n) (drop j ys) ≡ sets lent at (xs ++ ys)
-
-pub made-start : (lent : List ℤ) (at : ℕ) {n : ℕ} (xs ys : List ℤ) → length xs ≡ n → Made lent at n xs ys lent 0
-made-start lent at xs ys e = record { long = refl; whole = rw (add-zero, ← e) (sym (sets-append lent at xs ys)) }
-
-pub made-next : {lent now : List ℤ} (at n : ℕ) (xs ys : List ℤ) (j : ℕ) (x y : ℤ) → length xs ≡ n → length ys ≡ n → j < n → x ≡ getD xs j (pos 0)
-    → y ≡ getD ys j (pos 0) → Made lent at n xs ys now j → Made lent at n xs ys (set (set now (at + j) x) (at + j + n) y) (j + 1)
-made-next {lent} {now} at n xs ys j x y lx ly h ex ey m =
-    let one = set now (at + j) x in
-    let first = rw (drop-cons xs j (pos 0) (omega arith), drop-cons ys j (pos 0) (omega arith), ← ex, ← ey) at (m .whole) in
-    let room : suc (at + j) + length (drop (suc j) xs) ≤ at + j + n = omega (arith, length-drop (suc j) xs) in
-    record {
-      long = length-set one (at + j + n) y ∙ length-set now (at + j) x ∙ m .long;
-      whole = rw (add-one j, add-suc, suc-add, ← set-sets one (drop (suc j) xs) (suc (at + j)) (at + j + n) y room) first;
-    }
-
-pub made-end : {lent now : List ℤ} (at n : ℕ) (xs ys : List ℤ) → length xs ≡ n → length ys ≡ n → Made lent at n xs ys now n → now ≡ sets lent at (xs ++ ys)
-made-end at n xs ys lx ly m =
-    rw (drop-of-length-le xs {i = n} (omega arith), drop-of-length-le ys {i = n} (omega arith)) at (m .whole)

@@ -8,14 +8,11 @@ use native.Mathlib.Nat.{suc-mul, not-suc-le-zero, le-of-suc-le-suc}
 use native.Mathlib.Omega.{arith}
 use lib.IntN.{ℤ, pos, negℤ}
 use lib.ListN.{length, getD}
-use mir.Syntax.{w16}
-use mir.Val.{toZ, ofZ}
-use mir.Facts.{toZ-ofZ}
 use Rattle.integers.specs.Sums.{Bounded}
 use Rattle.integers.proofs.Sums.{bounded-none, bounded-more}
 use Rattle.sine.specs.Sine.{S}
-use Rattle.sine.specs.Wave.{wave, HoldsSine}
-use Rattle.sine.proofs.Laws.{S-mod, S-same, S-opposite, S-bound, S-fits}
+use Rattle.sine.specs.Wave.{phases, wave}
+use Rattle.sine.proofs.Laws.{S-same, S-opposite, S-bound}
 
 pub wave-none : (s p : ℕ) → wave 0 s p ≡ []
 unfolding wave
@@ -57,6 +54,20 @@ unfolding wave
 wave-bound zero s p = bounded-none
 wave-bound (suc n) s p = bounded-more (S-bound p) (wave-bound n s (p + s))
 
--- a value that is read from a table, at a phase modulo 1,920
-pub entry : (xs : List ℤ) (k p : ℕ) → HoldsSine xs → k ≡ p % 1920 → toZ w16 (ofZ w16 (getD xs k (pos 0))) ≡ S p
-entry xs k p h e = let f : getD xs k (pos 0) ≡ S p = h .at k (omega arith) ∙ ap S e ∙ S-mod p in rw f (toZ-ofZ (S-fits p))
+-- ---- a wave as the sines of its phases
+
+pub map-phases : (n s p : ℕ) → map S (phases n s p) ≡ wave n s p
+unfolding phases wave
+map-phases zero s p = refl
+map-phases (suc n) s p = ap (λ (xs : List ℤ). S p ∷ xs) (map-phases n s (p + s))
+
+pub length-phases : (n s p : ℕ) → length (phases n s p) ≡ n
+unfolding phases
+length-phases zero s p = refl
+length-phases (suc n) s p = ap suc (length-phases n s (p + s))
+
+pub phases-at : (n s p j : ℕ) → j < n → getD (phases n s p) j 0 ≡ p + j * s
+unfolding phases
+phases-at zero s p j h = absurd (not-suc-le-zero h)
+phases-at (suc n) s p zero h = omega arith
+phases-at (suc n) s p (suc j) h = phases-at n s (p + s) j (le-of-suc-le-suc h) ∙ omega (arith, suc-mul j s)

@@ -45,14 +45,16 @@ fn reading_numbers(reading: TapReading, handed: Taps) -> TapBlock
     ensures { λ r. ⌜ r ≡ readingNumbers reading handed ⌝ }
 {
     let answer = reading.answer;
+    if answer.number != 0 {
+        return TapBlock {
+            tap: handed,
+            number: answer.number,
+            count: answer.count,
+        };
+    }
     let next = reading.tap;
-    let tap = if answer.number == 0 {
-        numbers_of(next)
-    } else {
-        handed
-    };
     TapBlock {
-        tap,
+        tap: numbers_of(next),
         number: answer.number,
         count: answer.count,
     }
