@@ -19,13 +19,16 @@ extern "C" {
 
 /* The numbers of the refusals; docs/SPECIFICATION.md has the order in which each call looks for them. */
 #define MODEM_ACCEPTED 0
-#define MODEM_NO_BAND 1       /* the band is not 1 or 2 */
-#define MODEM_BAD_STATE 2     /* a field of the state is out of its range, or the bands of a tap are not 1 and 2 */
+#define MODEM_NO_BAND 1       /* a band is not 1 to 4 */
+#define MODEM_BAD_STATE 2     /* a field of the state is out of its range, or the bands of a tap are no pair */
 #define MODEM_TOO_MANY 3      /* too many characters or samples, or a block size of 0 or over MODEM_MOST_SAMPLES */
 #define MODEM_TOO_SHORT 4     /* a list has too few places, or too few numbers to add */
 #define MODEM_OUT_OF_RANGE 5  /* a sample or a disturbance is out of its range */
 #define MODEM_SHEET_TOO_LONG 6
 #define MODEM_NO_SHEET 7      /* the text has not the form of a sheet */
+#define MODEM_NO_PAIR 8       /* the bands of a tap are not 1 and 2, or 3 and 4, in this order */
+
+/* The bands 1 and 2 have the tones of Bell 103, originate and answer; 3 and 4 have those of V.21. */
 
 #define MODEM_BIT_SAMPLES 32
 #define MODEM_IDLE_SAMPLES (3 * MODEM_BIT_SAMPLES)
@@ -123,11 +126,16 @@ modem_block modem_receiver_block(modem_receiver receiver, const int16_t *samples
 modem_block modem_receiver_block_indexed(modem_receiver receiver, const int16_t *samples, size_t n,
                                          uint16_t *events, size_t places, uint16_t *indices, size_t index_places);
 
-/* The tap, for a line that carries both bands: a receiver of either band, each with a state of its own. */
+/* The tap, for a line that carries two bands, 1 and 2 or 3 and 4: a receiver of either band, each with a state of its own. */
 typedef struct {
-    modem_receiver first;  /* of band 1 */
-    modem_receiver second; /* of band 2 */
+    modem_receiver first;  /* of the lower band */
+    modem_receiver second; /* of the higher */
 } modem_tap;
+
+typedef struct {
+    uint8_t number;
+    modem_tap tap;
+} modem_tap_opened;
 
 typedef struct {
     modem_tap tap;
@@ -135,11 +143,11 @@ typedef struct {
     size_t count; /* of events */
 } modem_tap_reading;
 
-/* The fresh receivers of bands 1 and 2. It is never refused. */
-modem_tap modem_tap_open(void);
+/* The fresh receivers of a pair of bands; those of bands 1 and 2 if the pair is refused. */
+modem_tap_opened modem_tap_open(uint8_t first, uint8_t second);
 
 /* Both receivers read the same samples, each as it would by itself. The events come in the order of the samples; if one sample
- * brings two, that of band 1 comes first. */
+ * brings two, that of the lower band comes first. */
 modem_tap_reading modem_tap_block(modem_tap tap, const int16_t *samples, size_t n, uint16_t *events, size_t places);
 
 /* Sends a whole message from a fresh transmitter: leader, characters and trailer. The count is of samples. */

@@ -67,12 +67,12 @@ static void block_indexed(void)
 
 static void open_tap(void)
 {
-    refusals |= modem_tap_open().first.band != 1;
+    refusals |= modem_tap_open(1, 2).number;
 }
 
 static void tap_block(void)
 {
-    refusals |= modem_tap_block(modem_tap_open(), samples, BLOCK, events, sizeof events / sizeof *events).number;
+    refusals |= modem_tap_block(modem_tap_open(1, 2).tap, samples, BLOCK, events, sizeof events / sizeof *events).number;
 }
 
 static void loopback(void)

@@ -86,10 +86,10 @@ pub fn library(size: usize) -> impl Reader {
     }
 }
 
-/// Reads both bands, whichever the recording's is.
+/// Reads bands 1 and 2, whichever the recording's is.
 pub fn tap(size: usize) -> impl Reader {
     Blocks {
-        open: |_| (0, library::tap_open()),
+        open: |_| library::tap_open(1, 2),
         block: |tap: &mut library::Tap, samples: &[i16], events: &mut [u16]| {
             let answer = library::tap_block(*tap, samples, events);
             *tap = answer.state;

@@ -91,14 +91,15 @@ impl Recording {
         Recording::of(sines, band, samples)
     }
 
-    /// The same samples, with the events of a tap.
+    /// The same samples, with the events of a tap of bands 1 and 2.
     pub fn tapped(&self, sines: &Sines) -> Recording {
         let samples = self.samples.clone();
+        let (_, fresh) = tap::open(1, 2);
         let block =
             |state, samples: &[i16], events: &mut [u16]| tap::block(sines, state, samples, events);
         Recording {
             band: self.band,
-            events: step_by_step(tap::open(), &samples, block),
+            events: step_by_step(fresh, &samples, block),
             samples,
             message: None,
         }

@@ -36,7 +36,7 @@ extern "C" {
         indices: *mut u16,
         index_places: usize,
     ) -> BlockAnswer;
-    fn modem_tap_open() -> Tap;
+    fn modem_tap_open(first: u8, second: u8) -> TapOpened;
     fn modem_tap_block(
         tap: Tap,
         samples: *const i16,
@@ -177,9 +177,10 @@ pub fn receiver_block_indexed(
     }
 }
 
-pub fn tap_open() -> Tap {
-    // SAFETY: takes nothing and returns plain numbers.
-    unsafe { modem_tap_open() }
+pub fn tap_open(first: u8, second: u8) -> (u8, Tap) {
+    // SAFETY: takes and returns plain numbers.
+    let opened = unsafe { modem_tap_open(first, second) };
+    (opened.number, opened.tap)
 }
 
 pub fn tap_block(tap: Tap, samples: &[i16], events: &mut [u16]) -> BlockAnswer<Tap> {

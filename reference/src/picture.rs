@@ -13,7 +13,8 @@ use plot::{bounds_style, draw_plot, line_style};
 use ranges::{slot_range, Range, FIRST, FOUND, LAST};
 use svg::{Drawing, Point};
 
-const BAND: u8 = 1;
+/// The band that is drawn. The limits are those of every band.
+pub const BAND: u8 = 1;
 const CHARACTER: u8 = 0x41;
 const TITLE: &str = "Where the receiver looks at a character (41 hexadecimal, band 1)";
 

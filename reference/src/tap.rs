@@ -1,7 +1,11 @@
-//! The tap: a receiver of band 1 and one of band 2 that are fed the same block.
+//! The tap: the receivers of two bands that are fed the same block.
 
 use crate::receiver::{self, refused, tested, Answer};
 use crate::sine::Sines;
+use crate::transmitter::is_band;
+
+/// The pairs of bands that a tap can have, the lower band first.
+pub const PAIRS: [[u8; 2]; 2] = [[1, 2], [3, 4]];
 
 /// An event is so many times its band, plus its number.
 pub const BAND: u16 = 1_000;
@@ -12,10 +16,19 @@ pub struct State {
     pub second: receiver::State,
 }
 
-/// Both receivers fresh.
-pub fn open() -> State {
-    let [(_, first), (_, second)] = [1, 2].map(receiver::open);
-    State { first, second }
+/// The number and both receivers fresh; those of bands 1 and 2 stand in for a
+/// refused pair.
+pub fn open(first: u8, second: u8) -> (u8, State) {
+    let bands = [first, second];
+    let (number, bands) = if !bands.into_iter().all(is_band) {
+        (1, PAIRS[0])
+    } else if !PAIRS.contains(&bands) {
+        (8, PAIRS[0])
+    } else {
+        (0, bands)
+    };
+    let [(_, first), (_, second)] = bands.map(receiver::open);
+    (number, State { first, second })
 }
 
 /// Twice the list places of a receiver.
@@ -26,7 +39,7 @@ pub fn places_needed(samples: usize) -> usize {
 impl State {
     fn is_in_range(&self) -> bool {
         let bands = [self.first.band, self.second.band];
-        self.first.is_in_range() && self.second.is_in_range() && bands == [1, 2]
+        self.first.is_in_range() && self.second.is_in_range() && PAIRS.contains(&bands)
     }
 }
 
@@ -39,7 +52,7 @@ pub fn block(sines: &Sines, tap: State, samples: &[i16], events: &mut [u16]) -> 
     }
 }
 
-/// Each sample goes to band 1 and then to band 2.
+/// Each sample goes to the first receiver and then to the second.
 fn read(sines: &Sines, mut tap: State, samples: &[i16], events: &mut [u16]) -> Answer<State> {
     let first_tones = tap.first.tones(sines);
     let second_tones = tap.second.tones(sines);

@@ -8,8 +8,8 @@ pub(crate) const IDLE_SAMPLES: usize = 96;
 pub(crate) const CHARACTER_SAMPLES: usize = 320;
 pub(crate) const MOST_CHARACTERS: usize = 100;
 
-/// Steps of bit 0 (space) and bit 1 (mark) for bands 1 and 2.
-pub const STEPS: [[u16; 2]; 2] = [[214, 254], [405, 445]];
+/// Steps of bit 0 (space) and bit 1 (mark), from band 1 on. Either may be the larger.
+pub const STEPS: [[u16; 2]; 4] = [[214, 254], [405, 445], [236, 196], [370, 330]];
 
 #[derive(Clone, Copy, Debug, PartialEq, Eq)]
 pub struct State {
@@ -26,7 +26,7 @@ pub struct Answer {
 }
 
 pub(crate) fn is_band(band: u8) -> bool {
-    band == 1 || band == 2
+    (1..=STEPS.len()).contains(&usize::from(band))
 }
 
 impl State {

@@ -282,7 +282,7 @@ fn characters_and_breaks_at_random() {
     let too_long = too_long(&mut random);
     for band in BANDS {
         let mut breaks = 0;
-        for _ in 0..30 {
+        for _ in 0..20 {
             let items: Vec<Item> = (0..100).map(|_| Item::any(&mut random)).collect();
             let [before, behind] = [(); 2].map(|()| random.below(400));
             let recording = surrounded(&sending_of(band, &items), before, behind);
@@ -302,7 +302,7 @@ fn characters_and_breaks_at_random() {
             assert_ne!(state.stage_numbers(), HELD, "{}", what());
             breaks += kinds(&events)[3];
         }
-        assert!(breaks >= 1_000, "{breaks}");
+        assert!(breaks >= 650, "band {band}: {breaks}");
     }
 }
 

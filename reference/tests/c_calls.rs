@@ -3,7 +3,8 @@
 
 use crate::common::c::{compiled, file, has_sanitizers, has_valgrind, printed, Linked, SANITIZERS};
 use crate::common::recording::{mixed, sending};
-use reference::library::{self, Numbers};
+use crate::common::tap::PAIRS;
+use reference::library::{self, Numbers, Tap};
 use reference::receiver::places_needed;
 use reference::transmitter::Answer;
 use std::path::PathBuf;
@@ -76,17 +77,25 @@ fn indexed_calls(band: u8, block: &[i16]) -> String {
     lines
 }
 
-fn tap_calls(fewer: usize) -> String {
-    let [first, second] = [1, 2].map(|band| sending(band, &BYTES));
+fn both(tap: &Tap) -> String {
+    receiver(&tap.first) + &receiver(&tap.second)
+}
+
+fn open_tap([first, second]: [u8; 2]) -> (String, Tap) {
+    let (number, tap) = library::tap_open(first, second);
+    (answer("tap opened", number, 0) + &both(&tap), tap)
+}
+
+fn tap_calls(pair: [u8; 2], fewer: usize) -> String {
+    let [first, second] = pair.map(|band| sending(band, &BYTES));
     let line = mixed(&first, &second);
-    let mut tap = library::tap_open();
-    let mut lines = String::new();
+    let (mut lines, mut tap) = open_tap(pair);
     for _ in 0..2 {
         let mut list = vec![0x7777; 2 * places_needed(line.len()) - fewer];
         let found = library::tap_block(tap, &line, &mut list);
         tap = found.state;
         lines += &answer("tap", found.number, found.count);
-        lines += &(receiver(&tap.first) + &receiver(&tap.second) + &events(&list));
+        lines += &(both(&tap) + &events(&list));
         if let Some(event) = list[..found.count].first() {
             lines += &format!("  band {} event {}\n", event / 1_000, event % 1_000);
         }
@@ -122,10 +131,18 @@ fn whole_calls(band: u8, fewer: usize) -> String {
 
 fn expected() -> String {
     let calls = |band, fewer| transmitter_calls(band, fewer) + &whole_calls(band, fewer);
-    let lines: String = (0..=3)
-        .map(|band| calls(band, 0) + &calls(band, 1))
-        .collect();
-    lines + &tap_calls(0) + &tap_calls(1)
+    let numbers = 0..=5;
+    let bands = numbers.clone();
+    let mut lines: String = bands.map(|band| calls(band, 0) + &calls(band, 1)).collect();
+    for first in numbers.clone() {
+        for second in numbers.clone() {
+            lines += &open_tap([first, second]).0;
+        }
+    }
+    for fewer in [0, 1] {
+        lines += &PAIRS.map(|pair| tap_calls(pair, fewer)).concat();
+    }
+    lines
 }
 
 fn program(name: &str, more: &[&str], linked: Linked) -> PathBuf {

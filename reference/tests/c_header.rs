@@ -59,7 +59,7 @@ fn it_declares_what_the_libraries_have() {
 }
 
 /// A number written as a C program would use it, and what it is.
-const NUMBERS: [(&str, u32); 36] = [
+const NUMBERS: [(&str, u32); 37] = [
     ("MODEM_ACCEPTED", 0),
     ("MODEM_NO_BAND", 1),
     ("MODEM_BAD_STATE", 2),
@@ -68,6 +68,7 @@ const NUMBERS: [(&str, u32); 36] = [
     ("MODEM_OUT_OF_RANGE", 5),
     ("MODEM_SHEET_TOO_LONG", 6),
     ("MODEM_NO_SHEET", 7),
+    ("MODEM_NO_PAIR", 8),
     ("MODEM_BIT_SAMPLES", 32),
     ("MODEM_IDLE_SAMPLES", 96),
     ("MODEM_CHARACTER_SAMPLES", 320),

@@ -2,7 +2,7 @@
 
 use crate::common::c::{compiled, header_code, printed, written, Linked};
 use reference::library::{
-    BlockAnswer, CallAnswer, Numbers, ReceiverOpened, Sent, Sheet, Tap, Transmitter,
+    BlockAnswer, CallAnswer, Numbers, ReceiverOpened, Sent, Sheet, Tap, TapOpened, Transmitter,
     TransmitterOpened,
 };
 use std::mem::{align_of, offset_of, size_of};
@@ -96,6 +96,13 @@ fn layouts() -> Vec<Layout> {
             Tap {
                 first: first,
                 second: second
+            }
+        ),
+        layout!(
+            modem_tap_opened,
+            TapOpened {
+                number: number,
+                tap: tap
             }
         ),
         layout!(

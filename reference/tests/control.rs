@@ -94,7 +94,7 @@ fn every_run_stage_and_decision() {
             }
         }
     }
-    assert!(count > 300_000 && reported > 5_000, "{count}, {reported}");
-    // One window in either band and one stage, with every run.
-    assert_eq!(breaks, 2 * 33);
+    assert!(count > 600_000 && reported > 10_000, "{count}, {reported}");
+    // One window in each band and one stage, with every run.
+    assert_eq!(breaks, 33 * BANDS.len());
 }

@@ -8,7 +8,7 @@ use crate::common::recording::{
 };
 use crate::common::sheets::sheet;
 use crate::common::states::any_samples;
-use crate::common::{other_band, sines, BANDS, IDLE_SAMPLES};
+use crate::common::{other_bands, sines, BANDS, IDLE_SAMPLES};
 use reference::programs::demodulate;
 use reference::random::Random;
 
@@ -147,12 +147,12 @@ fn faults_between_characters() {
 fn random_samples() {
     let mut random = Random::new(83);
     let mut lines = 0;
-    for band in BANDS.into_iter().cycle().take(400) {
+    for band in BANDS.into_iter().cycle().take(800) {
         let count = random.below(4_000);
         let found = check(band, &any_samples(&mut random, band, count));
         lines += found.lines().count() - 1;
     }
-    assert!(lines > 400, "{lines}");
+    assert!(lines > 800, "{lines}");
 }
 
 #[test]
@@ -193,10 +193,13 @@ fn disturbed_sheets() {
 fn sheets_with_another_band() {
     let mut random = Random::new(86);
     for band in BANDS {
-        for _ in 0..20 {
-            let message = random.bytes(10);
-            let found = check(other_band(band), &sending(band, &message));
-            assert_ne!(found, listed(&as_events(&message)), "band {band}");
+        for other in other_bands(band) {
+            for _ in 0..10 {
+                let message = random.bytes(10);
+                let found = check(other, &sending(band, &message));
+                let what = format!("band {band} read as {other}");
+                assert_ne!(found, listed(&as_events(&message)), "{what}");
+            }
         }
     }
 }

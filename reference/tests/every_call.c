@@ -107,22 +107,35 @@ static void indexed_calls(uint8_t band, const int16_t *samples, size_t count)
     }
 }
 
+static void put_tap(modem_tap tap)
+{
+    put_receiver(tap.first);
+    put_receiver(tap.second);
+}
+
+static modem_tap open_tap(uint8_t first, uint8_t second)
+{
+    modem_tap_opened opened = modem_tap_open(first, second);
+    put_answer("tap opened", opened.number, 0);
+    put_tap(opened.tap);
+    return opened.tap;
+}
+
 /* Both bands on one line, read twice. */
-static void tap_calls(const uint8_t *bytes, size_t fewer)
+static void tap_calls(uint8_t first, uint8_t second, const uint8_t *bytes, size_t fewer)
 {
     size_t count = MODEM_MESSAGE_SAMPLES(BYTES), all = MODEM_TAP_PLACES(count) - fewer;
-    int16_t *line = places(count, sizeof *line), *second = places(count, sizeof *second);
-    modem_tap tap = modem_tap_open();
-    modem_message_send(1, bytes, BYTES, line, count);
-    modem_message_send(2, bytes, BYTES, second, count);
+    int16_t *line = places(count, sizeof *line), *other = places(count, sizeof *other);
+    modem_tap tap = open_tap(first, second);
+    modem_message_send(first, bytes, BYTES, line, count);
+    modem_message_send(second, bytes, BYTES, other, count);
     for (size_t i = 0; i < count; i++)
-        line[i] = (int16_t)((line[i] + second[i]) * 2 / 3);
+        line[i] = (int16_t)((line[i] + other[i]) * 2 / 3);
     for (int i = 0; i < 2; i++) {
         uint16_t *events = places(all, sizeof *events);
         modem_tap_reading reading = modem_tap_block(tap, line, count, events, all);
         put_answer("tap", reading.number, reading.count);
-        put_receiver(reading.tap.first);
-        put_receiver(reading.tap.second);
+        put_tap(reading.tap);
         put_events(events, all);
         if (reading.count > 0)
             printf("  band %d event %d\n", MODEM_TAP_BAND(events[0]), MODEM_TAP_EVENT(events[0]));
@@ -130,7 +143,7 @@ static void tap_calls(const uint8_t *bytes, size_t fewer)
         tap = reading.tap;
     }
     free(line);
-    free(second);
+    free(other);
 }
 
 static void sheet_calls(uint8_t band, const int16_t *samples, size_t count, size_t fewer)
@@ -179,13 +192,18 @@ int main(void)
     const uint8_t text[BYTES] = {0x00, 0x41, 0xff, 0x55, 0x0a};
     uint8_t *bytes = places(BYTES, 1);
     memcpy(bytes, text, BYTES);
-    for (uint8_t band = 0; band <= 3; band++)
+    for (uint8_t band = 0; band <= 5; band++)
         for (size_t fewer = 0; fewer <= 1; fewer++) {
             transmitter_calls(band, bytes, fewer);
             whole_calls(band, bytes, fewer);
         }
-    for (size_t fewer = 0; fewer <= 1; fewer++)
-        tap_calls(bytes, fewer);
+    for (uint8_t first = 0; first <= 5; first++)
+        for (uint8_t second = 0; second <= 5; second++)
+            open_tap(first, second);
+    for (size_t fewer = 0; fewer <= 1; fewer++) {
+        tap_calls(1, 2, bytes, fewer);
+        tap_calls(3, 4, bytes, fewer);
+    }
     free(bytes);
     return 0;
 }

@@ -43,7 +43,13 @@ fn character_41_ends_at_phase_1280() {
 /// of either begins at i advances, and the last one tells the next state.
 #[test]
 fn one_bit_advances_the_phase() {
-    let bands = [(1, (1_088, 214), (448, 254)), (2, (1_440, 405), (800, 445))];
+    // Those of bands 3 and 4 are no example there, and follow from their steps.
+    let bands = [
+        (1, (1_088, 214), (448, 254)),
+        (2, (1_440, 405), (800, 445)),
+        (3, (1_792, 236), (512, 196)),
+        (4, (320, 370), (960, 330)),
+    ];
     for side in SIDES {
         for (band, space, mark) in bands {
             let character = side.call(Call::Characters(&[0]), side.fresh(band), 320);

@@ -2,7 +2,7 @@
 //! order is 1, 3, 5, 4.
 
 use crate::common::loopback::Call;
-use crate::common::NO_BAND;
+use crate::common::{BANDS, NO_BAND};
 
 /// What a call is made with.
 #[derive(Clone, Debug)]
@@ -142,7 +142,7 @@ fn every_band() {
             band,
             ..accepted(1)
         };
-        let expected = if (1..=2).contains(&band) { 0 } else { 1 };
+        let expected = if BANDS.contains(&band) { 0 } else { 1 };
         assert_eq!(made.number(), expected, "band {band}");
     }
 }

@@ -67,7 +67,7 @@ fn the_disturbances_differ() {
 fn random_disturbances_and_blocks() {
     let mut random = Random::new(68);
     for _ in 0..300 {
-        let band = BANDS[random.below(2)];
+        let band = BANDS[random.below(BANDS.len())];
         let count = random.below(101);
         let message = random.bytes(count);
         let more = random.below(40);

@@ -5,77 +5,47 @@ use crate::common::sines;
 use reference::disturbance::{beginnings, margins, Limits, LIMITS, MOST};
 use reference::transmitter::STEPS;
 
-/// Two tones, the phase between the beginnings of bits, and the largest
+/// Of each band the phase between the beginnings of bits, and the largest
 /// disturbance with which the test passes.
-struct Tones {
-    name: &'static str,
-    steps: [u16; 2],
-    stride: usize,
-    largest: i16,
+const EXPECTED: [(u8, usize, i16); STEPS.len()] =
+    [(1, 64, 139), (2, 160, 143), (3, 128, 122), (4, 320, 133)];
+
+fn steps(band: u8) -> [u16; 2] {
+    STEPS[usize::from(band) - 1]
 }
 
-/// The bands, and the pairs of V.21, which are no bands.
-const TONES: [Tones; 4] = [
-    Tones {
-        name: "band 1",
-        steps: STEPS[0],
-        stride: 64,
-        largest: 139,
-    },
-    Tones {
-        name: "band 2",
-        steps: STEPS[1],
-        stride: 160,
-        largest: 143,
-    },
-    Tones {
-        name: "V.21 channel 1",
-        steps: [236, 196],
-        stride: 128,
-        largest: 122,
-    },
-    Tones {
-        name: "V.21 channel 2",
-        steps: [370, 330],
-        stride: 320,
-        largest: 133,
-    },
-];
-
-fn tried(tones: &Tones, most: i16, limits: &Limits) -> Result<(), String> {
-    margins(sines(), tones.steps, most, limits)
+fn tried(band: u8, most: i16, limits: &Limits) -> Result<(), String> {
+    margins(sines(), steps(band), most, limits)
 }
 
 #[test]
 fn bits_begin_at_few_phases() {
-    for tones in TONES {
-        let mut found = beginnings(tones.steps);
+    for (band, stride, _) in EXPECTED {
+        let mut found = beginnings(steps(band));
         found.sort();
-        let expected = (0..1_920).step_by(tones.stride);
-        assert!(expected.eq(found), "{}", tones.name);
+        let expected = (0..1_920).step_by(stride);
+        assert!(expected.eq(found), "band {band}");
     }
 }
 
 #[test]
 fn the_largest_disturbances() {
-    for tones in TONES {
-        let name = tones.name;
-        for most in [MOST, tones.largest] {
-            assert_eq!(tried(&tones, most, &LIMITS), Ok(()), "{name}, {most}");
+    for (band, _, largest) in EXPECTED {
+        for most in [MOST, largest] {
+            assert_eq!(tried(band, most, &LIMITS), Ok(()), "band {band}, {most}");
         }
-        let more = tried(&tones, tones.largest + 1, &LIMITS);
-        assert!(more.is_err(), "{name}");
+        assert!(tried(band, largest + 1, &LIMITS).is_err(), "band {band}");
     }
 }
 
-/// The pairs of tones that the specification's disturbance can bring to fail.
-fn failing(limits: Limits) -> Vec<&'static str> {
-    let fails = |tones: &Tones| tried(tones, MOST, &limits).is_err();
-    let failing = TONES.iter().filter(|tones| fails(tones));
-    failing.map(|tones| tones.name).collect()
+/// The bands that the specification's disturbance can bring to fail.
+fn failing(limits: Limits) -> Vec<u8> {
+    let bands = EXPECTED.map(|(band, ..)| band).into_iter();
+    let fails = |&band: &u8| tried(band, MOST, &limits).is_err();
+    bands.filter(fails).collect()
 }
 
-/// One sample closer, and each of the three fails for some pair.
+/// One sample closer, and each of the three fails for some band.
 #[test]
 fn no_limit_can_be_closer() {
     let earlier = Limits {
@@ -90,7 +60,7 @@ fn no_limit_can_be_closer() {
         last_silent: LIMITS.last_silent + 1,
         ..LIMITS
     };
-    assert_eq!(failing(earlier), ["band 1", "band 2", "V.21 channel 1"]);
-    assert_eq!(failing(later), ["band 1", "band 2", "V.21 channel 1"]);
-    assert_eq!(failing(silent), ["band 1"]);
+    assert_eq!(failing(earlier), [1, 2, 3]);
+    assert_eq!(failing(later), [1, 2, 3]);
+    assert_eq!(failing(silent), [1]);
 }

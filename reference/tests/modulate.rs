@@ -95,7 +95,7 @@ fn every_character_in_messages() {
 #[test]
 fn random_messages() {
     let mut random = Random::new(74);
-    for band in BANDS.into_iter().cycle().take(600) {
+    for band in BANDS.into_iter().cycle().take(800) {
         let count = random.below(40);
         check_message(band, &random.bytes(count));
     }

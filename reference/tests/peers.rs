@@ -42,7 +42,7 @@ fn compare(state: Numbers, samples: &[i16], places: usize) -> (u8, Vec<u16>, Num
 fn read_recordings(seed: u64, mut make: impl FnMut(&mut Random, u8) -> (Vec<i16>, Vec<u16>)) {
     let mut random = Random::new(seed);
     for band in BANDS {
-        for size in (1..=70).step_by(3).chain([320, 1_000, 16_384]) {
+        for size in (1..=70).step_by(5).chain([320, 1_000, 16_384]) {
             let (sending, expected) = make(&mut random, band);
             let recording = surrounded(&sending, 100, 200);
             let recording = disturbed(&recording, |_| around_0(&mut random, 100));

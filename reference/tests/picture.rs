@@ -10,6 +10,7 @@ use reference::random::Random;
 use reference::receiver;
 use reference::transmitter::{characters, State, STEPS};
 use std::fs;
+use std::ops::RangeInclusive;
 
 #[test]
 fn the_file_is_what_the_program_draws() {
@@ -46,15 +47,25 @@ fn undecided(band: u8) -> [usize; 32] {
     undecided
 }
 
-/// And at each place that is drawn as undecided there is a phase with no winner.
+/// Of each band, how many samples of the later bit leave some phase without a winner.
+/// Band 4 is decided with one sample fewer than the others.
+const UNDECIDED: [RangeInclusive<usize>; BANDS.len()] = [15..=18, 15..=18, 15..=18, 15..=17];
+
 #[test]
 fn the_certain_tone_wins_at_every_phase() {
-    for band in BANDS {
+    for (band, expected) in BANDS.into_iter().zip(UNDECIDED) {
         let undecided = undecided(band);
         let found = (0..32).filter(|&count| undecided[count] > 0);
-        let drawn = (0..32).filter(|&count| LIMITS.certain(0, 1, count as i64).is_none());
-        assert!(found.eq(drawn), "band {band}: {undecided:?}");
+        assert!(found.eq(expected), "band {band}: {undecided:?}");
     }
+}
+
+/// At each place that is drawn as undecided there is a phase with no winner, in the
+/// band of the picture.
+#[test]
+fn what_is_drawn_as_undecided_is_so() {
+    let drawn = (0..32).filter(|&count| LIMITS.certain(0, 1, count as i64).is_none());
+    assert!(drawn.eq(UNDECIDED[usize::from(picture::BAND) - 1].clone()));
 }
 
 /// The samples with which the events come, the recording read one by one.

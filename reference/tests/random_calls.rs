@@ -78,3 +78,13 @@ fn a_row_of_calls_in_band_1() {
 fn a_row_of_calls_in_band_2() {
     row_of_calls(2, 4);
 }
+
+#[test]
+fn a_row_of_calls_in_band_3() {
+    row_of_calls(3, 7);
+}
+
+#[test]
+fn a_row_of_calls_in_band_4() {
+    row_of_calls(4, 110);
+}

@@ -3,7 +3,9 @@
 
 use crate::common::met::{assert_frequent, Met};
 use crate::common::receiver::{fresh, read_on};
-use crate::common::recording::{around_0, as_events, disturbed, keyed, noise, sending};
+use crate::common::recording::{
+    around_0, as_events, bits, disturbed, noise, sending, surrounded, toned,
+};
 use crate::common::{BANDS, CHARACTER_SAMPLES, IDLE_SAMPLES};
 use reference::disturbance::MOST;
 use reference::random::Random;
@@ -31,20 +33,28 @@ fn read_burst(
     met.read_on(state, [&samples[cut..]]).0
 }
 
+/// A character behind so many samples of silence or of the tone of a bit. Seven bits
+/// of mark stand between that tone and the leader, all with one phase that runs on: a
+/// jump of it can be taken for a start bit.
+fn line(band: u8, bit: Option<usize>, before: usize, character: u8) -> Vec<i16> {
+    let Some(bit) = bit else {
+        return surrounded(&sending(band, &[character]), before, 0);
+    };
+    let behind = [vec![1; 7], bits(&[character])].concat();
+    let behind = behind.into_iter().flat_map(|bit| [bit; 32]);
+    toned(band, vec![bit; before].into_iter().chain(behind))
+}
+
 /// Noise of 1 to 40 samples at each of 32 places behind a block's beginning, and
 /// behind it a character. It comes out whatever the noise did, because silence
 /// ends a character that the noise began, and so do ten bits of mark.
 fn read_noise(met: &mut Met, random: &mut Random, band: u8, bit: Option<usize>, most: i16) {
-    let ground = bit.map_or(vec![0; 200], |bit| keyed(band, &[bit; 7]));
-    // The leader has three more.
-    let mark = keyed(band, &[1; 7][..if bit.is_some() { 7 } else { 0 }]);
     for count in 1..=40 {
         for place in 0..32 {
             let begin = AROUND + place;
             let burst = begin..begin + count;
             let message = random.bytes(1);
-            let behind = [&mark[..], &sending(band, &message)].concat();
-            let samples = [&ground[..burst.end + AROUND], &behind].concat();
+            let samples = line(band, bit, burst.end + AROUND, message[0]);
             let mut samples = disturbed(&samples, |_| around_0(random, most));
             samples[burst.clone()].copy_from_slice(&noise(random, 8_191, count));
             let events = read_burst(met, random, band, (&samples, AROUND), burst);
@@ -70,24 +80,24 @@ fn noise_in(seed: u64, bit: Option<usize>) -> Met {
 #[test]
 fn noise_in_silence() {
     let met = noise_in(62, None);
-    assert_frequent(met.kinds, [5_120, 0, 0, 0]);
-    met.assert_searching_runs(2);
+    assert_frequent(met.kinds, [10_240, 0, 0, 0]);
+    met.assert_searching_runs(4);
 }
 
 #[test]
 fn noise_in_mark() {
     let met = noise_in(63, Some(1));
-    assert_frequent(met.kinds, [6_000, 30, 0, 0]);
-    met.assert_searching_runs(20);
-    met.assert_waiting_runs(3);
+    assert_frequent(met.kinds, [11_000, 0, 0, 0]);
+    met.assert_searching_runs(40);
+    met.assert_waiting_runs(6);
 }
 
 #[test]
 fn noise_in_space() {
     let met = noise_in(64, Some(0));
-    assert_frequent(met.kinds, [9_000, 0, 1_000, 0]);
-    met.assert_searching_runs(5);
-    met.assert_waiting_runs(20);
+    assert_frequent(met.kinds, [18_000, 0, 2_000, 0]);
+    met.assert_searching_runs(10);
+    met.assert_waiting_runs(40);
 }
 
 /// Silence of 1 to 70 samples in the first of two characters. It begins at every

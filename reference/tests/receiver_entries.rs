@@ -1,38 +1,14 @@
 //! The library's two entries in turn, one chosen at random for each call.
 
-use crate::common::receiver::{
-    accepted, assert_events, compare_through, fresh, read_by, read_on, ENTRIES,
-};
+use crate::common::receiver::{assert_events, compare_through, fresh, read_on, ENTRIES};
 use crate::common::recording::{
-    around_0, as_events, disturbed, every_character, random_blocks, sending, surrounded,
+    around_0, as_events, disturbed, every_character, sending, surrounded,
 };
-use crate::common::refused::{refused, too_long};
+use crate::common::rows::read_in_turn;
 use crate::common::states::{any_block, any_samples, hostile_state};
 use crate::common::BANDS;
 use reference::disturbance::MOST;
-use reference::library::Numbers;
 use reference::random::Random;
-
-/// Reads the samples in random blocks, each by the one entry or the other, with
-/// refused calls before some of them.
-fn read_in_turn(
-    random: &mut Random,
-    band: u8,
-    samples: &[i16],
-    longest: usize,
-) -> (Vec<u16>, Numbers) {
-    let too_long = too_long(random);
-    let blocks = random_blocks(random, samples, longest);
-    read_by(fresh(band), blocks, |state, samples| {
-        if random.below(16) == 0 {
-            refused(random, state, samples, &too_long);
-        }
-        let entry = ENTRIES[random.below(2)];
-        let places = samples.len() / 48 + 1 + random.below(3);
-        let [reading] = compare_through([entry], state, samples, places);
-        accepted(reading)
-    })
-}
 
 /// Every character in each band, each sample altered by at most `most`.
 fn read_recordings(seed: u64, most: i16) {

@@ -4,7 +4,7 @@ use crate::common::met::{assert_frequent, kinds, Kinds};
 use crate::common::receiver::{fresh, read_on};
 use crate::common::recording::{around_0, noise, random_blocks, sending};
 use crate::common::states::{any_samples, steps};
-use crate::common::{other_band, sines, BANDS};
+use crate::common::{other_bands, sines, BANDS};
 use reference::random::Random;
 
 /// The kinds of the events that either side tells of the samples, in blocks of
@@ -41,7 +41,7 @@ fn sendings_in_loud_noise() {
     let mut random = Random::new(20);
     for band in BANDS {
         let mut all = [0; 4];
-        for most in [500, 1_000, 2_000, 2_191, 4_000, 8_000] {
+        for most in [500, 1_000, 2_000, 2_191, 4_000, 8_000, 16_000] {
             let message = random.bytes(150);
             let mut samples = sending(band, &message);
             for sample in &mut samples {
@@ -53,7 +53,7 @@ fn sendings_in_loud_noise() {
                 *all += kind;
             }
         }
-        assert_frequent(all, [800, 5, 0, 0]);
+        assert_frequent(all, [900, 5, 0, 0]);
     }
 }
 
@@ -64,7 +64,7 @@ fn sendings_near_the_least_good_level() {
     let mut random = Random::new(21);
     for band in BANDS {
         let mut all = [0; 4];
-        for loudness in (1_700..=2_000).step_by(20) {
+        for loudness in (1_700..=2_100).step_by(20) {
             let message = random.bytes(40);
             let samples: Vec<i16> = sending(band, &message)
                 .iter()
@@ -84,8 +84,8 @@ fn sendings_near_the_least_good_level() {
 /// lose it, so that a block has far more events than one of a sending.
 #[test]
 fn short_bursts_of_space() {
-    let mut most = 0;
     for band in BANDS {
+        let mut most = 0;
         let [space, _] = steps(band);
         for burst in 40..=80 {
             for silence in [20, 30, 33, 40, 60] {
@@ -99,8 +99,8 @@ fn short_bursts_of_space() {
                 most = most.max(events.len());
             }
         }
+        assert!(most >= 170, "band {band}: {most}");
     }
-    assert!(most >= 170, "{most}");
 }
 
 /// Another band's tones.
@@ -108,11 +108,13 @@ fn short_bursts_of_space() {
 fn sendings_of_another_band() {
     let mut random = Random::new(22);
     for band in BANDS {
-        let mut samples = sending(other_band(band), &random.bytes(250));
-        for sample in &mut samples {
-            *sample += around_0(&mut random, 2_191);
+        for other in other_bands(band) {
+            let mut samples = sending(other, &random.bytes(150));
+            for sample in &mut samples {
+                *sample += around_0(&mut random, 2_191);
+            }
+            read(&mut random, band, &samples, 3_000);
         }
-        read(&mut random, band, &samples, 3_000);
     }
 }
 

@@ -194,6 +194,12 @@ fn ends_behind(
     (almost[0], ends)
 }
 
+/// A tone so quiet that the level is lost before half of a window is silent: in half a
+/// window either tone may be the stronger.
+fn quiet(tone: &[i16]) -> Vec<i16> {
+    tone.iter().map(|sample| sample / 5 * 2).collect()
+}
+
 /// Gaps at every place between the tones of two bits, from one stage to another, in
 /// each band. The run is counted back to the gap, wherever it lies in the block. The
 /// ends found behind it must be those expected of the one with run 31 and the last.
@@ -207,11 +213,12 @@ fn gaps(
     BANDS.map(|band| {
         let mut met = Met::new();
         let tones = tones(band);
+        let (first, then) = (quiet(&tones[first]), &tones[then]);
         for before in 0..=LONGEST {
-            // The shortest gap that breaks the run for certain, and longer ones, so
+            // A short gap, which breaks the run for certain, and longer ones, so
             // that a search may meet any part of one first.
             for silent in [23, 24 + before % 40] {
-                let (window, samples) = gap(&tones[first], before, silent, &tones[then]);
+                let (window, samples) = gap(&first, before, silent, then);
                 let from = Numbers {
                     band,
                     window,

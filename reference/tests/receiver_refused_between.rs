@@ -13,7 +13,7 @@ fn a_recording_is_read_as_if_no_block_had_been_refused() {
     for band in BANDS {
         for size in [1, 13, 47, 48, 160, 1_000, 16_384] {
             let message = every_character(&mut random);
-            let message = &message[..if size == 1 { 8 } else { 256 }];
+            let message = &message[..if size == 1 { 8 } else { 64 }];
             let recording = surrounded(&sending(band, message), 40, 40);
             let blocks = recording.chunks(size);
             let (events, state) = read_by(fresh(band), blocks, |state, samples| {

@@ -28,6 +28,16 @@ fn small_blocks_in_band_2() {
 }
 
 #[test]
+fn small_blocks_in_band_3() {
+    read_in_blocks_of(1..=64, 3, 111);
+}
+
+#[test]
+fn small_blocks_in_band_4() {
+    read_in_blocks_of(1..=64, 4, 112);
+}
+
+#[test]
 fn large_blocks() {
     let sizes = [100, 160, 320, 1_000, 1_024, 4_096, 16_383, 16_384];
     for band in BANDS {

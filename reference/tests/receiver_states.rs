@@ -46,9 +46,9 @@ fn every_slot_and_wait() {
             }
         }
     }
-    assert!(seen[usize::from(NO_STOP_BIT)] >= 50);
-    assert!(seen[usize::from(CARRIER_LOST)] >= 500);
-    assert!(seen[usize::from(BREAK)] >= 50);
+    assert!(seen[usize::from(NO_STOP_BIT)] >= 100);
+    assert!(seen[usize::from(CARRIER_LOST)] >= 1_000);
+    assert!(seen[usize::from(BREAK)] >= 100);
     assert!(seen[..256].iter().filter(|&&count| count > 0).count() >= 30);
 }
 

@@ -27,10 +27,13 @@ const LINES: [(&[u8], u8); 20] = [
     (b"9999\nx\n", 7),
 ];
 
-const TEXTS: [(&[u8], u8); 8] = [
+const TEXTS: [(&[u8], u8); 11] = [
     (b"", 7),
     (b"band\n1\nsample", 7),
     (b"band\n2\nsample\n-7\n", 0),
+    (b"band\n3\nsample\n-7\n", 0),
+    (b"band\n4\nsample\n-7\n", 0),
+    (b"band\n5\nsample\n-7\n", 1),
     (b"band\n12\nsample\n", 7),
     (b"Band\n1\nsample\n", 7),
     (b"band\n\nsample\n1\n", 7),
@@ -66,6 +69,8 @@ fn what_is_read() {
         ),
         (b"band\n2\nsample\n-7\n", 2, &[-7]),
         (b"band\n2\nsample\n", 2, &[]),
+        (b"band\n3\nsample\n-1180\n980\n", 3, &[-1180, 980]),
+        (b"band\n4\nsample\n1850\n", 4, &[1850]),
     ] {
         let (answer, found) = read_into(text, 4);
         assert_eq!((answer.band, answer.count), (band, samples.len()));
@@ -107,6 +112,8 @@ fn what_is_written() {
             &[-1000, -2000, -3000],
             b"band\n1\nsample\n-1000\n-2000\n-3000\n",
         ),
+        (3, &[-7, 0], b"band\n3\nsample\n-7\n0\n"),
+        (4, &[], b"band\n4\nsample\n"),
     ] {
         let (answer, text) = write_into(band, samples, 32);
         assert_eq!((answer.number, answer.count), (0, expected.len()));
@@ -118,6 +125,8 @@ fn what_is_written() {
 fn what_is_not_written() {
     let long = |last| [&[-1000; 10_920][..], &[last]].concat();
     for (band, samples, places, number) in [
+        (0, vec![1], 32, 1),
+        (5, vec![1], 32, 1),
         (9, vec![1], 32, 1),
         (9, vec![8192], 32, 1),
         (1, vec![8192], 32, 5),

@@ -3,7 +3,7 @@
 
 use crate::common::sheet_calls::{read_into, write_into};
 use crate::common::sheets::{sheet, text, HEAD};
-use crate::common::NO_BAND;
+use crate::common::{BANDS, NO_BAND};
 
 /// All sets of these numbers.
 fn sets(numbers: &[u8]) -> impl Iterator<Item = Vec<u8>> + '_ {
@@ -109,7 +109,7 @@ fn writing_at_the_limits() {
 #[test]
 fn every_band() {
     for band in 0..=255 {
-        let number = if (1..=2).contains(&band) { 0 } else { 1 };
+        let number = if BANDS.contains(&band) { 0 } else { 1 };
         assert_eq!(write_into(band, &[5], 100).0.number, number, "band {band}");
         if band < 10 {
             let text = text(&band.to_string(), "5\n");

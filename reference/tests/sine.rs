@@ -6,7 +6,7 @@ use reference::transmitter::State;
 
 /// The first sample of an idle is S at the phase of the state.
 #[test]
-fn every_phase_in_both_bands() {
+fn every_phase_in_each_band() {
     for band in BANDS {
         for phase in 0..1_920 {
             let outcome = compare(Call::Idle, State { band, phase }, 96);

@@ -1,11 +1,11 @@
-//! The order of a tap's events: that of the samples, and of one sample band 1 before
-//! band 2.
+//! The order of a tap's events: that of the samples, and of one sample the lower band
+//! before the other.
 
 use crate::common::indexed::compare_accepted as located;
 use crate::common::receiver::{compare_accepted, fresh, BREAK, CARRIER_LOST, NO_STOP_BIT, WINDOW};
 use crate::common::recording::{keyed, mixed, sending};
-use crate::common::states::{any_samples, byte_limit, window_of};
-use crate::common::tap::{good_tap, of_tap, open, tapped, TAP_BANDS};
+use crate::common::states::{byte_limit, window_of};
+use crate::common::tap::{any_line, good_tap_of, of_tap, open, tapped, PAIRS};
 use reference::library::{Numbers, Tap};
 use reference::random::Random;
 
@@ -17,10 +17,15 @@ fn waiting(band: u8, window: [i16; WINDOW], [wait, slot, byte]: [u8; 3]) -> Numb
     }
 }
 
+/// The events of either band, as the tap tells them.
+fn told(pair: [u8; 2], events: [u16; 2]) -> [u16; 2] {
+    [0, 1].map(|place| 1_000 * u16::from(pair[place]) + events[place])
+}
+
 /// The two events in their order, if the first band waits for `waits[0]` samples and
 /// the second for `waits[1]`, and those alone that a block of `count` samples has.
 fn in_order(waits: [u8; 2], [first, second]: [u16; 2], count: usize) -> Vec<u16> {
-    let mut events = vec![(waits[0], 1_000 + first), (waits[1], 2_000 + second)];
+    let mut events = vec![(waits[0], first), (waits[1], second)];
     if waits[1] < waits[0] {
         events.reverse();
     }
@@ -28,12 +33,13 @@ fn in_order(waits: [u8; 2], [first, second]: [u16; 2], count: usize) -> Vec<u16>
     events.into_iter().map(|(_, event)| event).collect()
 }
 
-/// Blocks that end before, at and behind either event, from every pair of waits.
-fn every_pair_of_waits(samples: &[i16], mut make: impl FnMut([u8; 2]) -> (Tap, [u16; 2])) {
+/// Blocks that end before, at and behind either event, from every two waits.
+fn every_two_waits(samples: &[i16], mut make: impl FnMut([u8; 2]) -> (Tap, [u16; 2])) {
     for first in 1..=32 {
         for second in 1..=32 {
             let waits = [first, second];
             let (tap, events) = make(waits);
+            let events = told([tap.first.band, tap.second.band], events);
             let ends = waits.map(usize::from);
             for count in [0, ends[0] - 1, ends[0], ends[1] - 1, ends[1], samples.len()] {
                 let reading = compare_accepted(tap, &samples[..count]);
@@ -48,31 +54,34 @@ fn every_pair_of_waits(samples: &[i16], mut make: impl FnMut([u8; 2]) -> (Tap, [
 #[test]
 fn two_lost_carriers() {
     let mut random = Random::new(87);
-    every_pair_of_waits(&[0; 40], |waits| {
-        let [first, second] = TAP_BANDS.map(|band| {
-            let slot = 1 + random.below(9) as u8;
-            let byte = random.below(byte_limit(slot)) as u8;
-            let wait = waits[usize::from(band) - 1];
-            waiting(band, [0; WINDOW], [wait, slot, byte])
+    for pair in PAIRS {
+        every_two_waits(&[0; 40], |waits| {
+            let [first, second] = [0, 1].map(|place| {
+                let slot = 1 + random.below(9) as u8;
+                let byte = random.below(byte_limit(slot)) as u8;
+                waiting(pair[place], [0; WINDOW], [waits[place], slot, byte])
+            });
+            (tapped(first, second), [CARRIER_LOST; 2])
         });
-        (tapped(first, second), [CARRIER_LOST; 2])
-    });
+    }
 }
 
 /// Mark is on the line in both bands, and either tells a character.
 #[test]
 fn two_characters() {
     let mut random = Random::new(88);
-    let [first, second] = TAP_BANDS.map(|band| keyed(band, &[1; 4]));
-    let line = mixed(&first, &second);
-    let (window, samples) = line.split_at(WINDOW);
-    let window = window.try_into().expect("a whole window");
-    every_pair_of_waits(&samples[..40], |waits| {
-        let bytes = [(); 2].map(|()| random.below(256) as u8);
-        let first = waiting(1, window, [waits[0], 9, bytes[0]]);
-        let second = waiting(2, window, [waits[1], 9, bytes[1]]);
-        (tapped(first, second), bytes.map(u16::from))
-    });
+    for pair in PAIRS {
+        let [first, second] = pair.map(|band| keyed(band, &[1; 4]));
+        let line = mixed(&first, &second);
+        let (window, samples) = line.split_at(WINDOW);
+        let window = window.try_into().expect("a whole window");
+        every_two_waits(&samples[..40], |waits| {
+            let bytes = [(); 2].map(|()| random.below(256) as u8);
+            let [first, second] =
+                [0, 1].map(|place| waiting(pair[place], window, [waits[place], 9, bytes[place]]));
+            (tapped(first, second), bytes.map(u16::from))
+        });
+    }
 }
 
 /// A receiver that tells an event with the next sample: a character, no stop bit, a
@@ -88,19 +97,25 @@ fn about_to_tell(band: u8, byte: u8, kind: usize) -> (Numbers, u16) {
     (waiting(band, window, [1, 9, byte]), event)
 }
 
-/// Every kind of event in either band, by one sample.
+/// Two events by one sample, of these kinds, with every byte.
+fn two_events(pair: [u8; 2], kinds: [usize; 2]) {
+    for byte in 0..=255 {
+        let (one, first) = about_to_tell(pair[0], byte, kinds[0]);
+        let (other, second) = about_to_tell(pair[1], 255 - byte, kinds[1]);
+        for samples in [&[0][..], &[0; 40]] {
+            let reading = compare_accepted(tapped(one, other), samples);
+            assert_eq!(reading.events(), told(pair, [first, second]), "{byte}");
+        }
+    }
+}
+
+/// Every kind of event in either band.
 #[test]
 fn two_events_of_every_kind() {
-    for byte in 0..=255 {
+    for pair in PAIRS {
         for first in 0..4 {
             for second in 0..4 {
-                let (one, first) = about_to_tell(1, byte, first);
-                let (other, second) = about_to_tell(2, 255 - byte, second);
-                for samples in [&[0][..], &[0; 40]] {
-                    let reading = compare_accepted(tapped(one, other), samples);
-                    let expected = [1_000 + first, 2_000 + second];
-                    assert_eq!(reading.events(), expected, "{byte}");
-                }
+                two_events(pair, [first, second]);
             }
         }
     }
@@ -117,7 +132,7 @@ fn put_together(tap: Tap, samples: &[i16]) -> usize {
         let indices = alone.indices().iter().copied();
         all.extend(indices.zip(events));
     }
-    // An event of band 1 is below one of band 2.
+    // An event of the lower band is below one of the other.
     all.sort();
     let expected: Vec<u16> = all.iter().map(|&(_, event)| event).collect();
     let reading = compare_accepted(tap, samples);
@@ -129,12 +144,14 @@ fn put_together(tap: Tap, samples: &[i16]) -> usize {
 #[test]
 fn sendings_in_step() {
     let mut random = Random::new(89);
-    let mut ties = 0;
-    for _ in 0..60 {
-        let [first, second] = TAP_BANDS.map(|band| sending(band, &random.bytes(10)));
-        ties += put_together(open(), &mixed(&first, &second));
+    for pair in PAIRS {
+        let mut ties = 0;
+        for _ in 0..60 {
+            let [first, second] = pair.map(|band| sending(band, &random.bytes(10)));
+            ties += put_together(open(pair), &mixed(&first, &second));
+        }
+        assert!(ties >= 20, "{pair:?}: {ties}");
     }
-    assert!(ties >= 20, "{ties}");
 }
 
 /// From any state, over silence, noise and tones. Receivers that both wait often wait
@@ -142,16 +159,17 @@ fn sendings_in_step() {
 #[test]
 fn random_states() {
     let mut random = Random::new(90);
-    let mut ties = 0;
-    for _ in 0..5_000 {
-        let mut tap = good_tap(&mut random);
-        if [tap.first.stage, tap.second.stage] == [1, 1] && random.below(2) == 0 {
-            let wait = tap.first.wait.min(tap.second.wait);
-            (tap.first.wait, tap.second.wait) = (wait, wait);
+    for pair in PAIRS {
+        let mut ties = 0;
+        for _ in 0..4_000 {
+            let mut tap = good_tap_of(&mut random, pair);
+            if [tap.first.stage, tap.second.stage] == [1, 1] && random.below(2) == 0 {
+                let wait = tap.first.wait.min(tap.second.wait);
+                (tap.first.wait, tap.second.wait) = (wait, wait);
+            }
+            let count = random.below(400);
+            ties += put_together(tap, &any_line(&mut random, pair, count));
         }
-        let count = random.below(400);
-        let [first, second] = TAP_BANDS.map(|band| any_samples(&mut random, band, count));
-        ties += put_together(tap, &mixed(&first, &second));
+        assert!(ties >= 100, "{pair:?}: {ties}");
     }
-    assert!(ties >= 100, "{ties}");
 }

@@ -1,11 +1,12 @@
 //! Blocks that a tap refuses.
 
-use crate::common::receiver::{compare, fresh, BlockState};
+use crate::common::receiver::{compare, fresh, BlockState, FRESH};
 use crate::common::refused::{
     bad_samples, first_condition_counts, other_forms, refused_blocks, refused_with, short_lists,
 };
 use crate::common::states::is_good;
-use crate::common::tap::{good_tap, open, tapped};
+use crate::common::tap::{good_tap, open, tapped, PAIRS};
+use crate::common::NO_BAND;
 use reference::library::{Numbers, Tap};
 use reference::random::Random;
 
@@ -19,24 +20,29 @@ fn the_first_condition_in_the_order_2_3_5_4_counts() {
 #[test]
 fn every_list_that_is_too_short_is_refused_with_4() {
     let others = |count| [0, count / 48 + 1, 2 * count / 48 + 1];
-    short_lists(open(), others);
+    for pair in PAIRS {
+        short_lists(open(pair), others);
+    }
     let is_short = |&count: &usize| others(count)[2] < Tap::places_needed(count);
     assert_eq!((0..48).filter(is_short).count(), 24);
 }
 
 #[test]
 fn a_sample_out_of_range_is_refused_with_5_wherever_it_stands() {
-    bad_samples(open());
+    for pair in PAIRS {
+        bad_samples(open(pair));
+    }
 }
 
 /// The numbers behind a search or a held break, in either receiver.
 #[test]
 fn other_forms_of_a_stage() {
-    for stage in [0, 2] {
-        other_forms(stage, |first| tapped(first, fresh(2)));
-        other_forms(stage, |state| {
-            tapped(fresh(1), Numbers { band: 2, ..state })
-        });
+    let of = |band, state| Numbers { band, ..state };
+    for [first, second] in PAIRS {
+        for stage in [0, 2] {
+            other_forms(stage, |state| tapped(of(first, state), fresh(second)));
+            other_forms(stage, |state| tapped(fresh(first), of(second, state)));
+        }
     }
 }
 
@@ -44,40 +50,33 @@ fn other_forms_of_a_stage() {
 /// Returns whether it was accepted.
 fn taken(tap: Tap) -> bool {
     let Tap { first, second } = tap;
-    let bands = [first.band, second.band] == [1, 2];
-    let good = is_good(&first) && is_good(&second) && bands;
+    let is_pair = PAIRS.contains(&[first.band, second.band]);
+    let good = is_good(&first) && is_good(&second) && is_pair;
     let number = compare(tap, &[], 2).answer.number;
     assert_eq!(number, if good { 0 } else { 2 }, "{tap:?}");
     good
 }
 
-/// Exchanged, one of them twice, or others. In a call that is refused for something
-/// else too, 2 comes first.
+/// Exchanged, one of them twice, one of either pair, or others. In a call that is
+/// refused for something else too, 2 comes first.
 #[test]
 fn every_pair_of_bands() {
     let blocks = refused_blocks::<Tap>();
-    let fresh = open();
-    let mut count = 0;
-    for pair in 0..=u16::MAX {
-        let [one, other] = pair.to_le_bytes();
-        let first = Numbers {
-            band: one,
-            ..fresh.first
-        };
-        let second = Numbers {
-            band: other,
-            ..fresh.second
-        };
+    let mut accepted = Vec::new();
+    for both in 0..=u16::MAX {
+        let bands = both.to_le_bytes();
+        let [first, second] = bands.map(|band| Numbers { band, ..FRESH });
         let tap = tapped(first, second);
         if taken(tap) {
-            count += 1;
-        } else if one < 4 && other < 4 {
+            accepted.push(bands);
+        } else if bands.iter().all(|&band| band <= NO_BAND) {
             for (samples, places, _) in &blocks {
                 refused_with(2, tap, samples, *places);
             }
         }
     }
-    assert_eq!(count, 1);
+    accepted.sort();
+    assert_eq!(accepted, [[1, 2], [3, 4]]);
 }
 
 /// Either receiver out of its range, both of them, and both in the other's place.

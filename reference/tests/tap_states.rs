@@ -2,41 +2,29 @@
 
 use crate::common::met::assert_frequent;
 use crate::common::receiver::{compare_accepted, read_on, WINDOW};
-use crate::common::recording::mixed;
-use crate::common::states::any_samples;
-use crate::common::tap::{good_tap, kinds_of, open, tapped, TAP_BANDS};
+use crate::common::tap::{any_line, good_tap_of, kinds_of, tapped, PAIRS};
 use reference::random::Random;
-
-/// Any samples of both bands on one line.
-fn any_line(random: &mut Random, count: usize) -> Vec<i16> {
-    let [first, second] = TAP_BANDS.map(|band| any_samples(random, band, count));
-    mixed(&first, &second)
-}
-
-/// The fresh receivers of both bands, however often.
-#[test]
-fn opened() {
-    assert_eq!(open(), open());
-}
 
 /// A block cut in two gives the same as the whole, whatever the state.
 #[test]
 fn random_states() {
     let mut random = Random::new(98);
-    let mut met = Vec::new();
-    for _ in 0..10_000 {
-        let tap = good_tap(&mut random);
-        let size = random.below(300);
-        let line = any_line(&mut random, size);
-        let whole = compare_accepted(tap, &line);
-        let (head, tail) = line.split_at(random.below(size + 1));
-        let (events, last) = read_on(tap, [head, tail]);
-        assert_eq!(whole.events(), events, "{tap:?}");
-        assert_eq!(whole.answer.state, last, "{tap:?}");
-        met.extend(events);
-    }
-    for kinds in kinds_of(&met) {
-        assert_frequent(kinds, [100, 100, 100, 5]);
+    for pair in PAIRS {
+        let mut met = Vec::new();
+        for _ in 0..7_000 {
+            let tap = good_tap_of(&mut random, pair);
+            let size = random.below(300);
+            let line = any_line(&mut random, pair, size);
+            let whole = compare_accepted(tap, &line);
+            let (head, tail) = line.split_at(random.below(size + 1));
+            let (events, last) = read_on(tap, [head, tail]);
+            assert_eq!(whole.events(), events, "{tap:?}");
+            assert_eq!(whole.answer.state, last, "{tap:?}");
+            met.extend(events);
+        }
+        for kinds in kinds_of(pair, &met) {
+            assert_frequent(kinds, [100, 100, 100, 5]);
+        }
     }
 }
 
@@ -45,19 +33,21 @@ fn random_states() {
 #[test]
 fn the_windows_hold_the_last_samples() {
     let mut random = Random::new(99);
-    let mut differ = 0;
-    for size in 0..=100 {
-        let tap = good_tap(&mut random);
-        let line = any_line(&mut random, size);
-        let next = compare_accepted(tap, &line).answer.state;
-        for (handed, next) in [(tap.first, next.first), (tap.second, next.second)] {
-            let all = [&handed.window[..], &line].concat();
-            assert_eq!(next.window, all[size..], "{size} samples");
-            assert_eq!(next.band, handed.band);
+    for pair in PAIRS {
+        let mut differ = 0;
+        for size in 0..=100 {
+            let tap = good_tap_of(&mut random, pair);
+            let line = any_line(&mut random, pair, size);
+            let next = compare_accepted(tap, &line).answer.state;
+            for (handed, next) in [(tap.first, next.first), (tap.second, next.second)] {
+                let all = [&handed.window[..], &line].concat();
+                assert_eq!(next.window, all[size..], "{size} samples");
+                assert_eq!(next.band, handed.band);
+            }
+            differ += usize::from(next.first.window != next.second.window);
         }
-        differ += usize::from(next.first.window != next.second.window);
+        assert!((25..=WINDOW).contains(&differ), "{pair:?}: {differ}");
     }
-    assert!((25..=WINDOW).contains(&differ), "{differ}");
 }
 
 /// Nothing of one receiver reaches the other: each goes on the same beside any other
@@ -65,10 +55,10 @@ fn the_windows_hold_the_last_samples() {
 #[test]
 fn each_by_itself() {
     let mut random = Random::new(100);
-    for _ in 0..3_000 {
-        let [tap, other] = [(); 2].map(|()| good_tap(&mut random));
+    for pair in PAIRS.into_iter().cycle().take(4_000) {
+        let [tap, other] = [(); 2].map(|()| good_tap_of(&mut random, pair));
         let size = random.below(200);
-        let line = any_line(&mut random, size);
+        let line = any_line(&mut random, pair, size);
         let next = compare_accepted(tap, &line).answer.state;
         let beside = compare_accepted(tapped(tap.first, other.second), &line);
         assert_eq!(beside.answer.state.first, next.first, "{tap:?}");

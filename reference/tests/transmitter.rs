@@ -68,7 +68,7 @@ fn messages_of_many_lengths_into_outputs_of_many_lengths() {
             } else {
                 (0, count * CHARACTER_SAMPLES)
             };
-            for (band, phase) in [(1, 0), (1, 1_919), (2, 0), (2, 1_234)] {
+            for (band, phase) in BANDS.into_iter().zip([1_919, 0, 1_234, 1]) {
                 let state = State { band, phase };
                 let answer = compare(Call::Characters(&message), state, length).answer;
                 let what = format!("{count} characters into {length} from {state:?}");

@@ -2,14 +2,16 @@
 -- Assumes nothing.
 use mathlib.Core.Path.{_≡_, refl, sym, ap, _∙_}
 use mathlib.Core.Bool.{Bool, true, false, cond, not}
-use mathlib.Core.List.{List}
+use mathlib.Core.List.{List, [], _∷_, map}
 use Prim.Native.Nat.{ℕ, min}
-use native.Mathlib.Omega.{arith}
+use borrow.Author.Tests.{eq-eqb, ne-eqb}
+use lib.Dec.{eqb}
 use lib.IntN.{ℤ}
 use lib.ListN.{length, drop}
 use lib.Seq.{take-append-seam}
-use Rattle.calls.specs.Refusals.{firstOf, none, this, behind}
+use Rattle.calls.specs.Refusals.{Test, firstOf}
 use Rattle.calls.specs.Outcome.{acceptedIn, oneList, bothIn, accepted}
+use Rattle.calls.proofs.Refusals.{is-first}
 use Rattle.tones.specs.Bands.{isBand}
 use Rattle.transmitter.specs.Samples.{idleBits, charactersBits}
 use Rattle.transmitter.specs.Calls as transmitter
@@ -26,21 +28,33 @@ use Rattle.demands.specs.Answers.{Opens}
 use Rattle.demands.specs.Demand1.{WholeSheet, Demand1}
 use Rattle.demands.proofs.Answers.{answers}
 
--- an opening, of either kind
-opens : {S : Type 0} (fresh : ℕ → S) (band : ℕ)
-    → Opens (transmitter.openTests band) fresh band (firstOf (transmitter.openTests band)) (fresh (cond (isBand band) band 1))
-opens fresh band = go (isBand band) refl
+-- an opening by a table
+opens : {S : Type 0} (row : List ℕ) (tests : List Test) (fresh other given : S) → map (λ (t : Test). t .number) tests ≡ row
+    → given ≡ cond (eqb (firstOf tests) 0) fresh other → Opens row tests fresh other (firstOf tests) given
+opens row tests fresh other given e g =
+    record {
+      numbers = e;
+      first = is-first tests;
+      refusal = λ h. g ∙ rw (ne-eqb (firstOf tests) 0 h) refl;
+      done = λ z. g ∙ rw (eq-eqb (firstOf tests) 0 z) refl;
+    }
+
+-- an opening of one band, of either kind
+opens-band : {S : Type 0} (fresh : ℕ → S) (band : ℕ)
+    → let tests = transmitter.openTests band in Opens (1 ∷ []) tests (fresh band) (fresh 1) (firstOf tests) (fresh (cond (isBand band) band 1))
+opens-band {S} fresh band = opens _ (transmitter.openTests band) _ _ _ refl (go (isBand band))
   where
-    go : (b : Bool) → isBand band ≡ b → Opens (transmitter.openTests band) fresh band (cond (not b) 1 0) (fresh (cond b band 1))
-    go true e = record { first = behind (ap not e) none; refusal = λ h. absurd (h refl); done = λ n. refl }
-    go false e = record { first = this (ap not e); refusal = λ h. (refl, refl); done = λ n. absurd (omega arith) }
+    go : (b : Bool) → fresh (cond b band 1) ≡ cond (eqb (cond (not b) 1 0) 0) (fresh band) (fresh 1)
+    go true = refl
+    go false = refl
 
 pub demand-1 : Demand1
-unfolding transmitter.openOf receiver.openOf transmitter.idleOf transmitter.charactersOf receiver.blockOf receiver.indexedOf tap.blockOf sheet.readOf sheet.writeOf
+unfolding transmitter.openOf receiver.openOf tap.openOf transmitter.idleOf transmitter.charactersOf receiver.blockOf receiver.indexedOf tap.blockOf sheet.readOf sheet.writeOf
 demand-1 =
     record {
-      transmitter-opening = opens transmitter.fresh;
-      receiver-opening = opens receiver.fresh;
+      transmitter-opening = opens-band transmitter.fresh;
+      receiver-opening = opens-band receiver.fresh;
+      tap-opening = λ first second. opens _ (tap.openTests first second) _ _ _ refl refl;
       idle = λ s lent. answers _ (transmitter.idleTests s (length lent)) s lent _ (transmitter.sent s idleBits lent) refl refl (λ e. refl);
       characters = λ s bytes lent.
           answers _ (transmitter.charactersTests s (length bytes) (length lent)) s lent _ (transmitter.sent s (charactersBits bytes) lent) refl refl

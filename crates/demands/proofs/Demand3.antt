@@ -2,7 +2,7 @@
 -- Assumes nothing.
 use Rattle.promise.proofs.Promise.{all-read}
 use Rattle.promise.proofs.Possible.{not-vacuous}
-use Rattle.tapped.proofs.Tapped.{read-on-tap, taps-possible, read-with-indices}
+use Rattle.tapped.proofs.Tapped.{read-on-tap, pairs-possible, taps-possible, read-with-indices}
 use Rattle.modulator.proofs.Cut as modulate
 use Rattle.demodulator.proofs.Cut as demodulate
 use Rattle.read_back.proofs.ReadBack.{read-back}
@@ -14,6 +14,7 @@ demand-3 =
       promise = all-read;
       possible = not-vacuous;
       on-tap = read-on-tap;
+      pairs-possible = pairs-possible;
       taps-possible = taps-possible;
       with-indices = read-with-indices;
       programs = read-back;

@@ -17,8 +17,10 @@ pub record Answers {S L : Type 0} (row : List ℕ) (tests : List Test) (s : S) (
   -- an accepted one has done what it is for
   pub done : o .number ≡ 0 → Done o
 
--- An opening, which has no count and is handed no state and no memory: it gives the fresh state of the band, or of band 1.
-pub record Opens {S : Type 0} (tests : List Test) (fresh : ℕ → S) (band number : ℕ) (given : S) : Type 0 where
+-- An opening, which has no count and is handed no state and no memory: it gives the fresh state that was asked for, or another if it is
+-- refused.
+pub record Opens {S : Type 0} (row : List ℕ) (tests : List Test) (fresh other : S) (number : ℕ) (given : S) : Type 0 where
+  pub numbers : map (λ (t : Test). t .number) tests ≡ row
   pub first : IsFirst tests number
-  pub refusal : (number ≡ 0 → ⊥) → (number ≡ 1) × (given ≡ fresh 1)
-  pub done : number ≡ 0 → given ≡ fresh band
+  pub refusal : (number ≡ 0 → ⊥) → given ≡ other
+  pub done : number ≡ 0 → given ≡ fresh

@@ -31,8 +31,13 @@ pub record WholeSheet (text : List ℕ) (lent : List ℤ) (o : Outcome ℕ (List
   pub given : o ≡ accepted (o .state) (front o) lent
 
 pub record Demand1 : Type 0 where
-  pub transmitter-opening : (band : ℕ) → let o = transmitter.openOf band in Opens (transmitter.openTests band) transmitter.fresh band (o .number) (o .transmitter)
-  pub receiver-opening : (band : ℕ) → let o = receiver.openOf band in Opens (receiver.openTests band) receiver.fresh band (o .number) (o .receiver)
+  -- an opening gives the fresh state of its band, or of band 1; a tap's that of its pair, or of bands 1 and 2
+  pub transmitter-opening : (band : ℕ) → let o = transmitter.openOf band in
+      Opens (1 ∷ []) (transmitter.openTests band) (transmitter.fresh band) (transmitter.fresh 1) (o .number) (o .transmitter)
+  pub receiver-opening : (band : ℕ) → let o = receiver.openOf band in
+      Opens (1 ∷ []) (receiver.openTests band) (receiver.fresh band) (receiver.fresh 1) (o .number) (o .receiver)
+  pub tap-opening : (first second : ℕ) → let o = tap.openOf first second in
+      Opens (1 ∷ 8 ∷ []) (tap.openTests first second) (tap.fresh first second) (tap.fresh 1 2) (o .number) (o .tap)
   -- idle and characters have sent every bit
   pub idle : (s : Transmitter) (lent : List ℤ)
       → Answers (2 ∷ 4 ∷ []) (transmitter.idleTests s (length lent)) s lent

@@ -1,69 +1,115 @@
--- `Margins` for every band, with each sample altered by at most `disturbance`, by the test computed for each pair of tones. The two pairs
--- of V.21, which are no bands, pass it too. A pair's stride is 32 times the largest number that divides both steps and 30, so that few
--- phases are tested; its count is 960 over the stride.
+-- `Margins` for every band, with each sample altered by at most `disturbance`: one test that is computed for each place of the table.
 -- Assumes nothing.
-use mathlib.Core.Path.{_≡_, refl}
-use mathlib.Core.Bool.{Bool, true, false}
-use Prim.Native.Nat.{ℕ, zero, suc, _-_}
-use lib.ListN.{getD}
+use mathlib.Core.Path.{_≡_, refl, sym, _∙_}
+use mathlib.Core.Bool.{Bool, true, false, cond, _&&_}
+use mathlib.Core.List.{List, [], _∷_, map}
+use mathlib.Mathlib.Data.Bool.Basic.{and-elim-left, and-elim-right}
+use Prim.Native.Nat.{ℕ, _*_, _-_, _/_, _%_, _<_}
+use native.Mathlib.Omega.{arith}
+use borrow.Author.Tests.{eqb-true}
+use lib.Dec.{eqb}
+use lib.ListN.{length, getD}
+use Rattle.integers.proofs.Lists.{map-at}
+use Rattle.integers.proofs.Tests.{passesBelow, below-at}
 use Rattle.sine.specs.Sine.{S, half, nearest}
 use Rattle.tones.specs.declared.Tones.{Tones}
-use Rattle.tones.specs.Bands.{originate, answer, bands, isBand, tonesOf}
-use Rattle.tones.proofs.Laws.{tones-band, tones-else}
+use Rattle.tones.specs.Bands.{originate, bands, isBand, tonesOf}
+use Rattle.tones.proofs.Laws.{few-bands, in-band, tones-band, tones-else}
 use Rattle.margin.specs.Windows.{disturbance, Margins}
 use Rattle.margin.proofs.Test.{test}
 use Rattle.margin.proofs.Phases.{margins-of}
 
--- ---- the bands
+-- ---- one row
 
-originate-passes : test disturbance originate 64 15 ≡ true
-unfolding test S half nearest
-originate-passes = refl
+-- the first of the numbers that divides both steps, or 1
+abbrev dividing : Tones → List ℕ → ℕ
+dividing t [] = 1
+dividing t (d ∷ ds) = cond (eqb (t .space % d) 0 && eqb (t .mark % d) 0) d (dividing t ds)
 
-of-originate : Margins disturbance originate
-of-originate = margins-of disturbance originate 64 15 refl originate-passes refl refl
+-- 32 times the largest number that divides both steps and 30, so that few phases are tested
+abbrev strideOf : Tones → ℕ
+strideOf t = 32 * dividing t (30 ∷ 15 ∷ 10 ∷ 6 ∷ 5 ∷ 3 ∷ 2 ∷ [])
 
-answer-passes : test disturbance answer 160 6 ≡ true
-unfolding test S half nearest
-answer-passes = refl
+-- the stride fits, and all its phases below 960 pass
+abbrev strideSure : Tones → (stride : ℕ) → Bool
+strideSure t stride =
+    eqb (stride * (960 / stride)) 960
+    && (eqb (32 * t .space % stride) 0 && (eqb (32 * t .mark % stride) 0 && test disturbance t stride (960 / stride)))
 
-of-answer : Margins disturbance answer
-of-answer = margins-of disturbance answer 160 6 refl answer-passes refl refl
+abbrev rowSure : Tones → Bool
+rowSure t = strideSure t (strideOf t)
 
--- the rows of the table; outside it originate stands
-row : (k : ℕ) → Margins disturbance (getD bands k originate)
+of-stride : (t : Tones) (stride : ℕ) → strideSure t stride ≡ true → Margins disturbance t
+of-stride t stride h =
+    let whole : Bool = eqb (stride * (960 / stride)) 960 in
+    let space : Bool = eqb (32 * t .space % stride) 0 in
+    let mark : Bool = eqb (32 * t .mark % stride) 0 in
+    let fits = and-elim-right whole _ h in
+    let sure = and-elim-right space _ fits in
+    margins-of disturbance t stride (960 / stride) (eqb-true _ 960 (and-elim-left whole _ h)) (and-elim-right mark _ sure)
+    (eqb-true _ 0 (and-elim-left space _ fits)) (eqb-true _ 0 (and-elim-left mark _ sure))
+
+-- ---- the table
+
+-- the row at a place passes; behind the end of the table there is none
+unfoldable sureAt : (place : ℕ) → Bool
+sureAt place = getD (map rowSure bands) place true
+
+-- A declaration may compute only so much, about 40 phases, and a row has up to 30. So each place is computed by itself, as many as there
+-- can be: a band is one digit.
+place-0 : sureAt 0 ≡ true
+unfolding sureAt bands test S half nearest
+place-0 = refl
+
+place-1 : sureAt 1 ≡ true
+unfolding sureAt bands test S half nearest
+place-1 = refl
+
+place-2 : sureAt 2 ≡ true
+unfolding sureAt bands test S half nearest
+place-2 = refl
+
+place-3 : sureAt 3 ≡ true
+unfolding sureAt bands test S half nearest
+place-3 = refl
+
+place-4 : sureAt 4 ≡ true
+unfolding sureAt bands test S half nearest
+place-4 = refl
+
+place-5 : sureAt 5 ≡ true
+unfolding sureAt bands test S half nearest
+place-5 = refl
+
+place-6 : sureAt 6 ≡ true
+unfolding sureAt bands test S half nearest
+place-6 = refl
+
+place-7 : sureAt 7 ≡ true
+unfolding sureAt bands test S half nearest
+place-7 = refl
+
+place-8 : sureAt 8 ≡ true
+unfolding sureAt bands test S half nearest
+place-8 = refl
+
+all-sure : passesBelow sureAt 9 ≡ true
+all-sure = rw (place-0, place-1, place-2, place-3, place-4, place-5, place-6, place-7, place-8)
+
+row : (k : ℕ) → k < length bands → Margins disturbance (getD bands k originate)
+unfolding sureAt
+row k h =
+    let t : Tones = getD bands k originate in
+    of-stride t (strideOf t) (sym (map-at rowSure bands k originate true h) ∙ below-at sureAt 9 all-sure k (omega (arith, few-bands)))
+
+-- a number that is no band has the first row's tones
+first-row : Margins disturbance originate
 unfolding bands
-row zero = of-originate
-row (suc zero) = of-answer
-row (suc (suc k)) = of-originate
+first-row = row 0 (omega arith)
 
 pub margins : (band : ℕ) → Margins disturbance (tonesOf band)
 margins band = go (isBand band) refl
   where
     go : (b : Bool) → isBand band ≡ b → Margins disturbance (tonesOf band)
-    go true e = rw (tones-band band e) (row (band - 1))
-    go false e = rw (tones-else band e) of-originate
-
--- ---- the pairs of V.21
-
--- 1,180 and 980 Hz
-abbrev pub channel1 : Tones
-channel1 = record { space = 236; mark = 196 }
-
--- 1,850 and 1,650 Hz
-abbrev pub channel2 : Tones
-channel2 = record { space = 370; mark = 330 }
-
-channel-1-passes : test disturbance channel1 64 15 ≡ true
-unfolding test S half nearest
-channel-1-passes = refl
-
-pub v21-channel-1 : Margins disturbance channel1
-v21-channel-1 = margins-of disturbance channel1 64 15 refl channel-1-passes refl refl
-
-channel-2-passes : test disturbance channel2 320 3 ≡ true
-unfolding test S half nearest
-channel-2-passes = refl
-
-pub v21-channel-2 : Margins disturbance channel2
-v21-channel-2 = margins-of disturbance channel2 320 3 refl channel-2-passes refl refl
+    go true e = let b = in-band band e in rw (tones-band band e) (row (band - 1) (omega (arith, b .low, b .high)))
+    go false e = rw (tones-else band e) first-row

@@ -6,7 +6,7 @@ use mathlib.Core.List.{List, [], _∷_}
 use mathlib.Mathlib.Data.Bool.Basic.{and-elim-left, and-elim-right}
 use Prim.Native.Nat.{ℕ, suc, _+_, _<_, _≤_, min}
 use native.Mathlib.Omega.{arith}
-use borrow.Author.Tests.{le-ltb, ne-eqb, eqb-true}
+use borrow.Author.Tests.{le-ltb, ne-eqb}
 use lib.Dec.{eqb}
 use lib.IntN.{ℤ}
 use lib.ListN.{length, take, drop, replicate, length-map, length-replicate}
@@ -20,6 +20,8 @@ use Rattle.calls.specs.Runs.{after}
 use Rattle.calls.proofs.Refusals.{not-refused, is-refused, refused-or}
 use Rattle.calls.proofs.Lists.{paired-sides}
 use Rattle.calls.proofs.Indexed.{values, indices, indexed-values}
+use Rattle.tones.specs.Bands.{isPair}
+use Rattle.tones.proofs.Laws.{band-digit, pair-known}
 use Rattle.control.specs.Rules.{isEvent}
 use Rattle.receiver.specs.declared.Receiver.{Receiver}
 use Rattle.receiver.specs.Step as receiver
@@ -31,7 +33,7 @@ use Rattle.receiver.proofs.Indexed.{indexed-number}
 use Rattle.tap.specs.declared.Tap.{Tap}
 use Rattle.tap.specs.declared.TapReading.{TapReading}
 use Rattle.tap.specs.Step.{inBand, afterSample, stateAfter, eventsAfter}
-use Rattle.tap.specs.Calls.{isPair, inRange, placesFor, blockTests, blockOf}
+use Rattle.tap.specs.Calls.{inRange, placesFor, blockTests, blockOf}
 use Rattle.tap.specs.AsCoded.{merged, banded, mergedEvents}
 use Rattle.tap.proofs.Merging.{length-merged}
 use Rattle.tap.proofs.Order.{in-order}
@@ -115,7 +117,7 @@ module _ (s : Receiver) (xs : List ℤ) (o : Outcome Receiver (List ℕ × List 
 pub record InRange (t : Tap) : Type 0 where
   pub first : calls.inRange (t .first) ≡ true
   pub second : calls.inRange (t .second) ≡ true
-  pub pair : isPair t ≡ true
+  pub pair : isPair (t .first .band) (t .second .band) ≡ true
 
 pub in-range : (t : Tap) → inRange t ≡ true → InRange t
 unfolding inRange
@@ -139,7 +141,7 @@ module _ (t : Tap) (xs : List ℤ) where
     pub passed : Passed (inRange t) xs (placesFor (length xs)) places
     pub first : Readable (t .first) xs calls.mostEvents
     pub second : Readable (t .second) xs calls.mostEvents
-    pub pair : isPair t ≡ true
+    pub pair : isPair (t .first .band) (t .second .band) ≡ true
 
   pub both-known : (places : ℕ) → firstOf (blockTests t xs places) ≡ 0 → BothReadable places
   both-known places e =
@@ -153,13 +155,11 @@ module _ (t : Tap) (xs : List ℤ) where
         pair = r .pair;
       }
 
-  -- the bands
-  module _ {places : ℕ} (k : BothReadable places) where
-    pub first-band : t .first .band ≡ 1
-    first-band = eqb-true (t .first .band) 1 (and-elim-left (eqb (t .first .band) 1) (eqb (t .second .band) 2) (k .pair))
-
-    pub second-band : t .second .band ≡ 2
-    second-band = eqb-true (t .second .band) 2 (and-elim-right (eqb (t .first .band) 1) (eqb (t .second .band) 2) (k .pair))
+  -- 1,000 times either band and an event is a 16-bit number
+  pub bands-few : {places : ℕ} → BothReadable places → (t .first .band ≤ 60) × (t .second .band ≤ 60)
+  bands-few k =
+      let known = pair-known (t .first .band) (t .second .band) (k .pair) in
+      (omega (arith, band-digit (t .first .band) (known .0)), omega (arith, band-digit (t .second .band) (known .1)))
 
   abbrev one : List (ℕ × ℕ)
   one = receiver.indexedAfter (t .first) xs

@@ -4,13 +4,10 @@ use mathlib.Core.Path.{_≡_, refl, sym, ap, ap₂, _∙_}
 use mathlib.Core.Bool.{true, cond}
 use mathlib.Core.List.{List, [], _∷_, _++_}
 use Prim.Native.Nat.{ℕ, _≤_}
-use mathlib.Mathlib.Data.Bool.Basic.{and-elim-left, and-elim-right}
 use native.Mathlib.Omega.{arith}
-use borrow.Author.Tests.{leb-true}
-use lib.Dec.{leb, eqb·suc-zero}
+use lib.Dec.{eqb·suc-zero}
 use lib.IntN.{ℤ}
 use lib.ListN.{length, length-map}
-use Rattle.integers.proofs.Tests.{lt-or-le}
 use Rattle.calls.specs.Outcome.{Outcome, isAccepted, front}
 use Rattle.calls.specs.Runs.{after, gives}
 use Rattle.calls.specs.Lists as lists
@@ -19,17 +16,13 @@ use Rattle.calls.proofs.Simulation as simulated
 use Rattle.calls.proofs.Simulation.{each-append}
 use Rattle.calls.proofs.Indexed.{indexed-values}
 use Rattle.calls.proofs.Lists.{one-keeps, IsRun, refused-run, accepted-run, joined-front}
-use Rattle.tones.specs.Bands.{bands, isBand}
-use Rattle.tones.specs.Samples.{areBetween}
-use Rattle.control.specs.Ranges.{isStage, isControl}
 use Rattle.receiver.specs.declared.Receiver.{Receiver}
 use Rattle.receiver.specs.Step as receiver
-use Rattle.receiver.specs.Calls as calls
 use Rattle.receiver.proofs.Counting.{events-few}
 use Rattle.receiver.proofs.Windows.{band-after}
 use Rattle.tap.specs.declared.Tap.{Tap}
 use Rattle.tap.specs.Step.{afterSample, eventsAt, stateAfter, eventsAfter}
-use Rattle.tap.specs.Calls.{fresh, inRange, placesFor}
+use Rattle.tap.specs.Calls.{inRange, placesFor}
 use Rattle.tap.specs.Lists.{Call, callOf, samplesRead, eventsRead, ofBand, Alone, BothDirections}
 use Rattle.tap.proofs.Blocks.{in-range, both-case, both-count}
 use Rattle.tap.proofs.Parts.{IsPart, first-part, second-part, range-kept, part-after, part-events}
@@ -127,20 +120,3 @@ both-directions t calls =
       range = calls-kept t calls;
       few = λ h. rw (in-order t calls) (tap-few t (samplesRead t calls) h);
     }
-
--- ---- the fresh tap
-
--- it has the fresh receiver of each band
-pub fresh-band : (band : ℕ) → isBand band ≡ true → (cs : List Call)
-    → ofBand band (eventsRead fresh cs) ≡ receiver.eventsAfter (calls.fresh band) (samplesRead fresh cs)
-unfolding bands isBand
-fresh-band band known cs =
-    let low : 1 ≤ band = leb-true 1 band (and-elim-left (leb 1 band) (leb band 2) known) in
-    let high : band ≤ 2 = leb-true band 2 (and-elim-right (leb 1 band) (leb band 2) known) in
-    lt-or-le band 2
-    (λ h. let e : band ≡ 1 = omega arith in rw e (alone first-part fresh cs .events))
-    (λ h. let e : band ≡ 2 = omega arith in rw e (alone second-part fresh cs .events))
-
-pub fresh-kept : inRange fresh ≡ true
-unfolding inRange calls.inRange bands isBand areBetween isControl isStage
-fresh-kept = refl

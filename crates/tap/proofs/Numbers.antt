@@ -10,10 +10,11 @@ use lib.Dec.{eqb, ltb}
 use lib.IntN.{ℤ}
 use lib.ListN.{length}
 use Rattle.calls.specs.Refusals.{firstOf}
+use Rattle.tones.specs.Bands.{isPair}
 use Rattle.tones.specs.Samples.{mostSamples, areSamples}
 use Rattle.receiver.specs.Calls as receiver
 use Rattle.tap.specs.declared.Tap.{Tap}
-use Rattle.tap.specs.Calls.{isPair, inRange, placesFor, blockTests}
+use Rattle.tap.specs.Calls.{inRange, placesFor, blockTests}
 
 -- what a receiver answers: `range` says that it is in its ranges, `long` that there are too many samples, `sound` that they are samples, and
 -- `short` that there are too few places
@@ -40,10 +41,10 @@ numbers true false true false true true short h = refl
 
 pub number : (t : Tap) (xs : List ℤ) (places : ℕ)
     → firstOf (blockTests t xs places)
-    ≡ by (firstOf (receiver.blockTests (t .first) xs receiver.mostEvents)) (firstOf (receiver.blockTests (t .second) xs receiver.mostEvents)) (isPair t)
+    ≡ by (firstOf (receiver.blockTests (t .first) xs receiver.mostEvents)) (firstOf (receiver.blockTests (t .second) xs receiver.mostEvents)) (isPair (t .first .band) (t .second .band))
     (ltb places (placesFor (length xs)))
 unfolding inRange
 number t xs places =
     numbers (receiver.inRange (t .first)) (ltb mostSamples (length xs)) (areSamples xs) (ltb receiver.mostEvents (receiver.placesFor (length xs)))
-    (receiver.inRange (t .second)) (isPair t) (ltb places (placesFor (length xs)))
+    (receiver.inRange (t .second)) (isPair (t .first .band) (t .second .band)) (ltb places (placesFor (length xs)))
     (λ e. le-ltb receiver.mostEvents (receiver.placesFor (length xs)) (omega (arith, ltb-false mostSamples (length xs) e)))

@@ -1,18 +1,19 @@
 -- One of a tap's receivers: the tap moves it as it moves alone, and the events of its band are its own. For either receiver, from two laws.
 -- Assumes nothing.
 use mathlib.Core.Path.{_≡_, refl, sym, ap, ap₂, _∙_}
-use mathlib.Core.Bool.{true, _&&_}
+use mathlib.Core.Bool.{true}
 use mathlib.Core.List.{List, [], _∷_, _++_, map, append-nil}
 use mathlib.Mathlib.Data.Bool.Basic.{and-elim-left, and-elim-right, and-intro}
 use Prim.Native.Nat.{ℕ, _-_, _*_, _/_, _<_}
 use native.Mathlib.Omega.{arith}
-use borrow.Author.Tests.{eq-eqb, ne-eqb, eqb-true}
-use lib.Dec.{eqb}
+use borrow.Author.Tests.{eq-eqb, ne-eqb}
 use lib.IntN.{ℤ}
 use Rattle.integers.specs.All.{All, none, more}
 use Rattle.calls.specs.Runs.{after, gives}
 use Rattle.calls.proofs.Simulation.{each-append}
+use Rattle.tones.specs.Bands.{isPair}
 use Rattle.tones.specs.Samples.{areSamples}
+use Rattle.tones.proofs.Laws.{pair-next}
 use Rattle.tones.proofs.Samples.{samples-append}
 use Rattle.receiver.specs.declared.Receiver.{Receiver}
 use Rattle.receiver.specs.Step as receiver
@@ -22,7 +23,7 @@ use Rattle.receiver.proofs.Events.{events-known}
 use Rattle.receiver.proofs.Windows.{band-after}
 use Rattle.tap.specs.declared.Tap.{Tap}
 use Rattle.tap.specs.Step.{inBand, afterSample, eventsAt, stateAfter, eventsAfter}
-use Rattle.tap.specs.Calls.{isPair, inRange}
+use Rattle.tap.specs.Calls.{inRange}
 use Rattle.tap.specs.Lists.{ofBand}
 use Rattle.tap.proofs.Blocks.{small, InRange, in-range, both-after}
 
@@ -51,15 +52,12 @@ pub range-kept : (t : Tap) (xs : List ℤ) → inRange t ≡ true → areSamples
 unfolding inRange
 range-kept t xs h l =
     let r = in-range t h in
-    let pair = ap₂ (λ (m n : ℕ). eqb m 1 && eqb n 2) (band-after (t .first) xs) (band-after (t .second) xs) in
+    let pair = ap₂ isPair (band-after (t .first) xs) (band-after (t .second) xs) in
     rw (both-after t xs)
     (and-intro (state-kept (t .first) xs (r .first) l) (and-intro (state-kept (t .second) xs (r .second) l) (pair ∙ r .pair)))
 
-bands-differ : (t : Tap) → isPair t ≡ true → t .first .band ≡ t .second .band → ⊥
-bands-differ t p e =
-    let one : t .first .band ≡ 1 = eqb-true (t .first .band) 1 (and-elim-left (eqb (t .first .band) 1) (eqb (t .second .band) 2) p) in
-    let two : t .second .band ≡ 2 = eqb-true (t .second .band) 2 (and-elim-right (eqb (t .first .band) 1) (eqb (t .second .band) 2) p) in
-    omega arith
+bands-differ : (t : Tap) → isPair (t .first .band) (t .second .band) ≡ true → t .first .band ≡ t .second .band → ⊥
+bands-differ t p e = omega (arith, pair-next (t .first .band) (t .second .band) p)
 
 -- ---- what is asked of a part, which both receivers have
 

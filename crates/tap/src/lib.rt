@@ -1,20 +1,27 @@
-// A tap on a line that carries both bands: one receiver of each band, fed the same blocks. The events of both go to one list.
+// A tap on a line that carries a pair of bands: one receiver of each, fed the same blocks. The events of both go to one list.
 ghost use mathlib.Core.Path.{_≡_};
 ghost use Rattle.calls.specs.Refusals.{firstOf};
 ghost use Rattle.calls.specs.Outcome.{outcome};
 ghost use Rattle.receiver.specs.Calls as receiver;
-ghost use Rattle.tap.specs.Calls.{fresh, isPair, blockTests, blockOf};
+ghost use Rattle.tap.specs.Calls.{openOf, blockTests, blockOf};
 
 mod merge;
+mod opening;
 
 use calls::Answer;
 use receiver::MOST_EVENTS;
 use receiver::Receiver;
 
-// The receivers of bands 1 and 2.
+// The receivers of bands 1 and 2, or of 3 and 4.
 pub struct Tap {
     pub first: Receiver,
     pub second: Receiver,
+}
+
+// What an opening answers: the number, and the fresh tap of the bands, or of 1 and 2 if it is refused.
+pub struct OpenedTap {
+    pub number: u8,
+    pub tap: Tap,
 }
 
 // What a block call answers: the next state, and the number with the count of events.
@@ -24,15 +31,21 @@ pub struct TapReading {
 }
 
 impl Tap {
-    // The fresh receivers of bands 1 and 2.
-    pub fn open() -> Tap
-        ensures { λ r. ⌜ r ≡ fresh ⌝ }
+    // The fresh receivers of a pair of bands.
+    pub fn open(first: u8, second: u8) -> OpenedTap
+        ensures { λ r. ⌜ r ≡ openOf first second ⌝ }
     {
-        let one = Receiver::open(1);
-        let two = Receiver::open(2);
-        let first = one.receiver;
-        let second = two.receiver;
-        Tap { first, second }
+        let number = opening::refusal(first, second);
+        if number != 0 {
+            return OpenedTap {
+                number,
+                tap: opening::fresh(1, 2),
+            };
+        }
+        OpenedTap {
+            number,
+            tap: opening::fresh(first, second),
+        }
     }
 
     // Reads a block of samples with both receivers, each into lists of its own, and merges their events.
@@ -89,7 +102,7 @@ impl Tap {
         if two == 2 {
             return 2;
         }
-        if !self.is_pair() {
+        if !tones::is_pair(self.first.band, self.second.band) {
             return 2;
         }
         if one != 0 {
@@ -99,15 +112,6 @@ impl Tap {
             return 4;
         }
         0
-    }
-
-    // The receivers are those of bands 1 and 2, in this order.
-    fn is_pair(self) -> bool
-        ensures { λ r. ⌜ r ≡ isPair self ⌝ }
-    {
-        let first = self.first;
-        let second = self.second;
-        first.band == 1 && second.band == 2
     }
 }
 

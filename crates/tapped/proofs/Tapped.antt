@@ -1,8 +1,9 @@
 -- What is sent is what a tap reads in the sending's band, and what is read with indices. From the promise, and from what a receiver gives alone.
 -- Assumes nothing.
-use mathlib.Core.Path.{_≡_, refl, sym, ap, _∙_}
+use mathlib.Core.Path.{_≡_, refl, sym, ap, subst, _∙_}
 use mathlib.Core.Bool.{true}
 use mathlib.Core.List.{List, [], _∷_, _++_, map}
+use mathlib.Core.Logic.{_⊎_, inl, inr}
 use mathlib.Mathlib.Data.Bool.Basic.{and-elim-left, and-elim-right}
 use Prim.Native.Nat.{ℕ, _≤_}
 use native.Mathlib.Omega.{arith}
@@ -13,7 +14,9 @@ use Rattle.calls.specs.Runs.{after}
 use Rattle.calls.specs.Lists.{each}
 use Rattle.calls.proofs.Indexed.{indexed-values}
 use Rattle.calls.proofs.Lists.{joined-each, Accepts, all-accepted}
+use Rattle.tones.specs.Bands.{isPair}
 use Rattle.tones.specs.Samples.{mostSamples, areSamples}
+use Rattle.tones.proofs.Laws.{pairs}
 use Rattle.tones.proofs.Samples.{samples-append}
 use Rattle.transmitter.specs.Calls as transmitter
 use Rattle.receiver.specs.Step.{afterSample, eventsAt, eventsAfter}
@@ -25,12 +28,13 @@ use Rattle.tap.specs.declared.Tap.{Tap}
 use Rattle.tap.specs.Calls as tap
 use Rattle.tap.specs.Lists as tapping
 use Rattle.tap.proofs.Blocks.{both-accepted}
-use Rattle.tap.proofs.Lists.{both-directions, fresh-band, fresh-kept}
+use Rattle.tap.proofs.Pairs.{fresh-kept}
+use Rattle.tap.proofs.Lists.{both-directions}
 use Rattle.margin.specs.Windows.{disturbance}
 use Rattle.promise.specs.Recordings.{Transmission, characters}
 use Rattle.promise.proofs.Promise.{all-read}
 use Rattle.promise.proofs.Possible.{recorded-samples}
-use Rattle.tapped.specs.Tapped.{Tapped, ReadOnTap, tapCalls, TapsPossible, Indexed, ReadWithIndices}
+use Rattle.tapped.specs.Tapped.{PairWith, freshOf, PairsPossible, Tapped, ReadOnTap, tapCalls, TapsPossible, Indexed, ReadWithIndices}
 
 -- what the receiver of the band gives over the recording is what was sent
 recorded-events : (t : Transmission disturbance) → eventsAfter (receiver.fresh (t .band)) (t .recorded) ≡ characters t
@@ -41,11 +45,22 @@ recorded-events t =
 
 -- ---- a tap
 
+-- the tap has the fresh receiver of the band
+band-alone : {band : ℕ} (p : PairWith band) (cs : List tapping.Call)
+    → tapping.ofBand band (tapping.eventsRead (freshOf p) cs) ≡ eventsAfter (receiver.fresh band) (tapping.samplesRead (freshOf p) cs)
+band-alone {band} p cs = go (p .either)
+  where
+    Alone : ℕ → Type 0
+    Alone b = tapping.ofBand b (tapping.eventsRead (freshOf p) cs) ≡ eventsAfter (receiver.fresh b) (tapping.samplesRead (freshOf p) cs)
+
+    go : (band ≡ p .first) ⊎ (band ≡ p .second) → Alone band
+    go (inl e) = subst Alone (sym e) (both-directions (freshOf p) cs .first .events)
+    go (inr e) = subst Alone (sym e) (both-directions (freshOf p) cs .second .events)
+
 pub read-on-tap : (t : Tapped disturbance) → ReadOnTap t
 read-on-tap t =
-    let band : ℕ = t .transmission .band in
-    fresh-band band (t .transmission .known) (t .calls)
-    ∙ ap (eventsAfter (receiver.fresh band)) (t .read)
+    band-alone (t .bands) (t .calls)
+    ∙ ap (eventsAfter (receiver.fresh (t .transmission .band))) (t .read)
     ∙ recorded-events (t .transmission)
 
 -- a call that is accepted from every state in its ranges
@@ -76,13 +91,20 @@ calls-samples [] = refl
 calls-samples (xs ∷ blocks) = ap (λ (l : List ℤ). xs ++ l) (calls-samples blocks)
 
 pub taps-possible : TapsPossible
-taps-possible t blocks short whole =
-    joined-each tapping.callOf (λ (c : tapping.Call). c .samples) tap.fresh (tapCalls blocks)
+taps-possible t bands blocks short whole =
+    let start : Tap = freshOf bands in
+    joined-each tapping.callOf (λ (c : tapping.Call). c .samples) start (tapCalls blocks)
     ∙ ap (each (λ (c : tapping.Call). c .samples))
     (all-accepted tapping.callOf (λ (u : Tap). tap.inRange u ≡ true) Fits accepts (tapCalls blocks)
-    (calls-fit blocks short (ap areSamples whole ∙ recorded-samples (transmitter.fresh (t .band)) (t .sent) (t .recorded) (t .recording))) tap.fresh fresh-kept)
+    (calls-fit blocks short (ap areSamples whole ∙ recorded-samples (transmitter.fresh (t .band)) (t .sent) (t .recorded) (t .recording))) start (fresh-kept (bands .first) (bands .second) (bands .pair)))
     ∙ calls-samples blocks
     ∙ whole
+
+pub pairs-possible : PairsPossible
+pairs-possible = ((of 1 2 (pairs .0) (inl refl), of 1 2 (pairs .0) (inr refl)), (of 3 4 (pairs .1) (inl refl), of 3 4 (pairs .1) (inr refl)))
+  where
+    of : {band : ℕ} (first second : ℕ) → isPair first second ≡ true → (band ≡ first) ⊎ (band ≡ second) → PairWith band
+    of first second pair either = record { first = first; second = second; pair = pair; either = either }
 
 -- ---- indices
 

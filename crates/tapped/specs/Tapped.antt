@@ -2,15 +2,19 @@
 -- transmission of `promise` has the sending and the recording; these calls read the same recording in another way.
 -- Assumes nothing.
 use mathlib.Core.Path.{_≡_}
+use mathlib.Core.Bool.{true}
 use mathlib.Core.List.{List, [], _∷_, map}
+use mathlib.Core.Logic.{_⊎_}
 use Prim.Native.Nat.{ℕ, _≤_}
 use lib.IntN.{ℤ}
 use lib.ListN.{length, replicate}
 use Rattle.integers.specs.All.{All}
 use Rattle.calls.specs.Lists.{each}
+use Rattle.tones.specs.Bands.{isPair}
 use Rattle.tones.specs.Samples.{mostSamples}
 use Rattle.receiver.specs.Calls as receiver
 use Rattle.receiver.specs.Lists as reading
+use Rattle.tap.specs.declared.Tap.{Tap}
 use Rattle.tap.specs.Calls as tap
 use Rattle.tap.specs.Lists as tapping
 use Rattle.margin.specs.Windows.{disturbance}
@@ -18,15 +22,31 @@ use Rattle.promise.specs.Recordings.{Transmission, characters}
 
 -- ---- a tap
 
--- a list of tap calls from the fresh tap, whose accepted blocks, joined in order, are the recording
+-- a pair of bands that a tap can have, one of them `band`
+pub record PairWith (band : ℕ) : Type 0 where
+  pub first : ℕ
+  pub second : ℕ
+  pub pair : isPair first second ≡ true
+  pub either : (band ≡ first) ⊎ (band ≡ second)
+
+-- its fresh tap
+abbrev pub freshOf : {band : ℕ} → PairWith band → Tap
+freshOf p = tap.fresh (p .first) (p .second)
+
+-- bands 1 to 4 have such pairs
+abbrev pub PairsPossible : Type 0
+PairsPossible = (PairWith 1 × PairWith 2) × (PairWith 3 × PairWith 4)
+
+-- a list of tap calls from the fresh tap of such a pair, whose accepted blocks, joined in order, are the recording
 pub record Tapped (noise : ℕ) : Type 0 where
   pub transmission : Transmission noise
+  pub bands : PairWith (transmission .band)
   pub calls : List tapping.Call
-  pub read : tapping.samplesRead tap.fresh calls ≡ transmission .recorded
+  pub read : tapping.samplesRead (freshOf bands) calls ≡ transmission .recorded
 
 -- the events of the sending's band are the characters sent, whatever the other receiver tells
 abbrev pub ReadOnTap : {noise : ℕ} → Tapped noise → Type 0
-ReadOnTap t = tapping.ofBand (t .transmission .band) (tapping.eventsRead tap.fresh (t .calls)) ≡ characters (t .transmission)
+ReadOnTap t = tapping.ofBand (t .transmission .band) (tapping.eventsRead (freshOf (t .bands)) (t .calls)) ≡ characters (t .transmission)
 
 -- a call for each block, with just the places that it needs
 abbrev pub tapCalls : List (List ℤ) → List tapping.Call
@@ -36,8 +56,8 @@ tapCalls (block ∷ blocks) = record { samples = block; lent = replicate (tap.pl
 -- each way to cut a recording into blocks of at most 16,384 samples has such calls
 abbrev pub TapsPossible : Type 0
 TapsPossible =
-    (t : Transmission disturbance) (blocks : List (List ℤ)) → All (λ block. length block ≤ mostSamples) blocks
-    → each (λ block. block) blocks ≡ t .recorded → tapping.samplesRead tap.fresh (tapCalls blocks) ≡ t .recorded
+    (t : Transmission disturbance) (bands : PairWith (t .band)) (blocks : List (List ℤ)) → All (λ block. length block ≤ mostSamples) blocks
+    → each (λ block. block) blocks ≡ t .recorded → tapping.samplesRead (freshOf bands) (tapCalls blocks) ≡ t .recorded
 
 -- ---- indices
 

@@ -9,9 +9,11 @@ use lib.IntN.{ℤ}
 use Rattle.calls.specs.Outcome.{Outcome}
 use Rattle.receiving.specs.Numbers.{receiverOf, numbersOf}
 use Rattle.tap.specs.declared.Tap.{Tap}
+use Rattle.tap.specs.declared.OpenedTap.{OpenedTap}
 use Rattle.tap.specs.declared.TapReading.{TapReading}
 use Rattle.tap.specs.Calls.{blockOf}
 use Rattle.tapping.specs.declared.Taps.{Taps}
+use Rattle.tapping.specs.declared.TapOpening.{TapOpening}
 use Rattle.tapping.specs.declared.TapBlock.{TapBlock}
 
 -- ---- a state
@@ -21,6 +23,11 @@ tapOf n = record { first = receiverOf (n .first); second = receiverOf (n .second
 
 abbrev pub tapNumbers : Tap → Taps
 tapNumbers t = record { first = numbersOf (t .first); second = numbersOf (t .second) }
+
+-- ---- an opening
+
+abbrev pub openedNumbers : OpenedTap → TapOpening
+openedNumbers o = record { number = o .number; tap = tapNumbers (o .tap) }
 
 -- ---- a block call
 

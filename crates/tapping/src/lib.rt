@@ -1,17 +1,24 @@
 // The tap for programs in other languages. A state is handed in, and handed back, as the numbers of its two receivers, by value.
 ghost use mathlib.Core.Path.{_≡_};
 ghost use Rattle.calls.specs.Outcome.{answerOf, outcome};
-ghost use Rattle.tap.specs.Calls.{fresh};
-ghost use Rattle.tapping.specs.Numbers.{tapOf, tapNumbers, readingNumbers, blockNumbers};
+ghost use Rattle.tap.specs.Calls.{openOf};
+ghost use Rattle.tapping.specs.Numbers.{tapOf, tapNumbers, openedNumbers, readingNumbers, blockNumbers};
 use receiving::State;
 use tap::Tap;
 use tap::TapReading;
 
-// The receivers of bands 1 and 2.
+// The receivers of bands 1 and 2, or of 3 and 4.
 #[repr(C)]
 pub struct Taps {
     pub first: State,
     pub second: State,
+}
+
+// What an opening answers: the number, and the fresh tap of the bands, or of 1 and 2 if it is refused.
+#[repr(C)]
+pub struct TapOpening {
+    pub number: u8,
+    pub tap: Taps,
 }
 
 // What a block call answers: the next state, the number, and the count of events.
@@ -22,12 +29,17 @@ pub struct TapBlock {
     pub count: usize,
 }
 
-// The fresh receivers of bands 1 and 2.
+// Opens a pair of bands.
 #[no_mangle]
-pub extern "C" fn modem_tap_open() -> Taps
-    ensures { λ r. ⌜ r ≡ tapNumbers fresh ⌝ }
+pub extern "C" fn modem_tap_open(first: u8, second: u8) -> TapOpening
+    ensures { λ r. ⌜ r ≡ openedNumbers (openOf first second) ⌝ }
 {
-    numbers_of(Tap::open())
+    let opened = Tap::open(first, second);
+    let fresh = opened.tap;
+    TapOpening {
+        number: opened.number,
+        tap: numbers_of(fresh),
+    }
 }
 
 // Reads a block of samples with both receivers. A refused call gives back the state as it was handed.

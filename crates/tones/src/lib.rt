@@ -1,6 +1,6 @@
 // The tones of the bands: how far each moves the phase in a sample, in 1,920ths of a cycle (5 Hz). And the range of a sample.
 ghost use mathlib.Core.Path.{_≡_};
-ghost use Rattle.tones.specs.Bands.{isBand, tonesOf};
+ghost use Rattle.tones.specs.Bands.{isBand, isPair, tonesOf};
 ghost use Rattle.tones.specs.Samples.{isBetween, areBetween, areSamples};
 
 // The steps of the two tones. Neither is taken to be the larger.
@@ -13,7 +13,7 @@ pub struct Tones {
 pub const MOST_SAMPLES: usize = 16384;
 
 // One row a band, from band 1 on.
-const BANDS: [Tones; 2] = [
+const BANDS: [Tones; 4] = [
     Tones {
         space: 214,
         mark: 254,
@@ -22,12 +22,31 @@ const BANDS: [Tones; 2] = [
         space: 405,
         mark: 445,
     },
+    Tones {
+        space: 236,
+        mark: 196,
+    },
+    Tones {
+        space: 370,
+        mark: 330,
+    },
 ];
 
 pub fn is_band(band: u8) -> bool
     ensures { λ r. ⌜ r ≡ isBand band ⌝ }
 {
-    1 <= band && band <= 2
+    1 <= band && band as usize <= BANDS.len()
+}
+
+// The bands are those of a line in both directions, in this order.
+pub fn is_pair(first: u8, second: u8) -> bool
+    ensures { λ r. ⌜ r ≡ isPair first second ⌝ }
+{
+    match first {
+        1 => second == 2,
+        3 => second == 4,
+        _ => false,
+    }
 }
 
 // The tones of a band, and those of band 1 for a number that is no band.

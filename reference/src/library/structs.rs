@@ -64,6 +64,13 @@ pub struct Tap {
     pub second: Numbers,
 }
 
+/// `modem_tap_opened`.
+#[repr(C)]
+pub struct TapOpened {
+    pub number: u8,
+    pub tap: Tap,
+}
+
 /// `modem_block`, and with the state of a tap `modem_tap_reading`.
 #[repr(C)]
 #[derive(Clone, Copy, Debug, PartialEq, Eq)]

@@ -17,7 +17,7 @@ pub fn all() -> Vec<Numbered> {
 }
 
 fn names_and_band() -> Vec<Numbered> {
-    let texts: [(&[u8], u8); 31] = [
+    let texts: [(&[u8], u8); 34] = [
         (b"", 7),
         (b"\n", 7),
         (b"\0", 7),
@@ -28,7 +28,10 @@ fn names_and_band() -> Vec<Numbered> {
         (b"band\n1\nsample", 7),
         (b"band\n1\nsample\n", 0),
         (b"band\n2\nsample\n", 0),
+        (b"band\n3\nsample\n", 0),
+        (b"band\n4\nsample\n", 0),
         (b"band\n0\nsample\n", 1),
+        (b"band\n5\nsample\n", 1),
         (b"band\n9\nsample\n", 1),
         (b"band\n12\nsample\n", 7),
         (b"band\n01\nsample\n", 7),
@@ -50,9 +53,7 @@ fn names_and_band() -> Vec<Numbered> {
         (b"sample\nband\n1\n", 7),
         (b"\xef\xbb\xbfband\n1\nsample\n", 7),
     ];
-    let none = (text(&NO_BAND.to_string(), ""), 1);
-    let texts = texts.map(|(text, number)| (text.to_vec(), number));
-    texts.into_iter().chain([none]).collect()
+    texts.map(|(text, number)| (text.to_vec(), number)).into()
 }
 
 fn bad_lines() -> Vec<Numbered> {

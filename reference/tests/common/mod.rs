@@ -36,15 +36,15 @@ use reference::sine::Sines;
 use reference::transmitter::{self, Answer, State};
 use std::sync::OnceLock;
 
-pub const BANDS: [u8; 2] = [1, 2];
+pub const BANDS: [u8; 4] = [1, 2, 3, 4];
 /// The first number behind them.
 pub const NO_BAND: u8 = BANDS.len() as u8 + 1;
 pub const IDLE_SAMPLES: usize = 96;
 pub const CHARACTER_SAMPLES: usize = 320;
 
-/// The next band, and behind the last one the first.
-pub fn other_band(band: u8) -> u8 {
-    band % BANDS.len() as u8 + 1
+/// All bands but this one.
+pub fn other_bands(band: u8) -> impl Iterator<Item = u8> {
+    BANDS.into_iter().filter(move |&other| other != band)
 }
 
 pub fn sines() -> &'static Sines {

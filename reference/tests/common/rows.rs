@@ -1,8 +1,12 @@
 //! Rows of calls from block to block: of a receiver, with or without indices, and of
 //! a tap.
 
-use super::receiver::{assert_events, compare, read_by, read_on, BlockState};
+use super::receiver::{
+    accepted, assert_events, compare, compare_through, fresh, read_by, read_on, BlockState, ENTRIES,
+};
+use super::recording::random_blocks;
 use super::refused::{refused, too_long};
+use reference::library::Numbers;
 use reference::random::Random;
 
 /// The events and the last state are the same in blocks of each of these sizes.
@@ -54,6 +58,27 @@ pub fn refused_between<S: BlockState>(
         assert_eq!(state, last, "{}", what());
     }
     expected
+}
+
+/// Reads the samples in random blocks, each by the one entry or the other, with
+/// refused calls before some of them.
+pub fn read_in_turn(
+    random: &mut Random,
+    band: u8,
+    samples: &[i16],
+    longest: usize,
+) -> (Vec<u16>, Numbers) {
+    let too_long = too_long(random);
+    let blocks = random_blocks(random, samples, longest);
+    read_by(fresh(band), blocks, |state, samples| {
+        if random.below(16) == 0 {
+            refused(random, state, samples, &too_long);
+        }
+        let entry = ENTRIES[random.below(2)];
+        let places = samples.len() / 48 + 1 + random.below(3);
+        let [reading] = compare_through([entry], state, samples, places);
+        accepted(reading)
+    })
 }
 
 /// Each call gets the state that the call before it left. A hostile state is a turn

@@ -44,9 +44,9 @@ pub fn byte_limit(slot: u8) -> usize {
     }
 }
 
-/// The steps of space and mark.
+/// The steps of space and mark, once more as the specification has them.
 pub fn steps(band: u8) -> [usize; 2] {
-    [[214, 254], [405, 445]][usize::from(band) - 1]
+    [[214, 254], [405, 445], [236, 196], [370, 330]][usize::from(band) - 1]
 }
 
 /// A window of the tone of a bit, at a part of its loudness.

@@ -1,21 +1,35 @@
-//! A tap's call made on either side, and compared.
+//! A tap's calls made on either side, and compared.
 
 use super::met::{kinds, Kinds};
 use super::receiver::{assert_same, fresh, guarded, in_numbers, told, BlockState, Reading};
-use super::states::good_state_of;
+use super::recording::mixed;
+use super::states::{any_samples, good_state_of};
 use super::{Side, SIDES};
 use reference::library::{self, Numbers, Tap};
 use reference::random::Random;
 use reference::tap;
 
-/// The bands of a tap.
-pub const TAP_BANDS: [u8; 2] = [1, 2];
+/// The bands that a tap can have.
+pub const PAIRS: [[u8; 2]; 2] = [[1, 2], [3, 4]];
 
-/// The fresh state, opened on both sides.
-pub fn open() -> Tap {
-    let expected = tapped(fresh(1), fresh(2));
-    assert_eq!(Tap::from(tap::open()), expected);
-    assert_eq!(library::tap_open(), expected);
+/// The number and the state that an opening gives.
+pub fn opened(side: Side, [first, second]: [u8; 2]) -> (u8, Tap) {
+    match side {
+        Side::Reference => {
+            let (number, state) = tap::open(first, second);
+            (number, Tap::from(state))
+        }
+        Side::Library => library::tap_open(first, second),
+    }
+}
+
+/// The fresh state of a pair, opened on both sides.
+pub fn open(pair: [u8; 2]) -> Tap {
+    let [first, second] = pair.map(fresh);
+    let expected = tapped(first, second);
+    for side in SIDES {
+        assert_eq!(opened(side, pair), (0, expected), "{side:?}");
+    }
     expected
 }
 
@@ -23,10 +37,23 @@ pub fn tapped(first: Numbers, second: Numbers) -> Tap {
     Tap { first, second }
 }
 
-/// Any state in range. The windows seldom agree, as they would behind a line.
-pub fn good_tap(random: &mut Random) -> Tap {
-    let [first, second] = TAP_BANDS.map(|band| good_state_of(random, band));
+/// Any state in range of a pair. The windows seldom agree, as they would behind a
+/// line.
+pub fn good_tap_of(random: &mut Random, pair: [u8; 2]) -> Tap {
+    let [first, second] = pair.map(|band| good_state_of(random, band));
     tapped(first, second)
+}
+
+/// The same of any pair.
+pub fn good_tap(random: &mut Random) -> Tap {
+    let pair = PAIRS[random.below(PAIRS.len())];
+    good_tap_of(random, pair)
+}
+
+/// Any samples of both bands on one line.
+pub fn any_line(random: &mut Random, pair: [u8; 2], count: usize) -> Vec<i16> {
+    let [first, second] = pair.map(|band| any_samples(random, band, count));
+    mixed(&first, &second)
 }
 
 /// A receiver's events as a tap tells them.
@@ -44,8 +71,8 @@ pub fn of_band(band: u8, events: &[u16]) -> Vec<u16> {
 }
 
 /// How many events of each kind either band has.
-pub fn kinds_of(events: &[u16]) -> [Kinds; 2] {
-    TAP_BANDS.map(|band| kinds(&of_band(band, events)))
+pub fn kinds_of(pair: [u8; 2], events: &[u16]) -> [Kinds; 2] {
+    pair.map(|band| kinds(&of_band(band, events)))
 }
 
 /// Makes the call with `length` lent places, and checks what holds of every call.
@@ -88,14 +115,21 @@ impl BlockState for Tap {
         found
     }
 
-    /// A receiver is out of its range, or of another band.
+    /// A receiver is out of its range, or the bands are no pair.
     fn spoiled(self, random: &mut Random) -> Tap {
         let Tap { first, second } = self;
-        match random.below(6) {
+        // The band at the same place of the other pair.
+        let across = |state: Numbers| Numbers {
+            band: (state.band + 1) % 4 + 1,
+            ..state
+        };
+        match random.below(8) {
             0 | 1 => tapped(first.spoiled(random), second),
             2 | 3 => tapped(first, second.spoiled(random)),
             4 => tapped(second, first),
-            _ => [tapped(first, first), tapped(second, second)][random.below(2)],
+            5 => [tapped(first, first), tapped(second, second)][random.below(2)],
+            6 => tapped(across(first), second),
+            _ => tapped(first, across(second)),
         }
     }
 }

@@ -9,16 +9,19 @@ use reference::sine::Sines;
 use reference::transmitter::STEPS;
 use std::array;
 
+const BANDS: [u8; STEPS.len()] = [1, 2, 3, 4];
+
 /// Prints a table with a column for each band.
 pub fn print(sines: &Sines) {
-    println!("| | band 1 | band 2 |");
-    println!("|---|---|---|");
-    let signals = [1, 2].map(|band| Signal::new(sines, band, 1, SHEET));
+    let names = BANDS.map(|band| format!("band {band}"));
+    println!("| | {} |", names.join(" | "));
+    println!("|{}", "---|".repeat(1 + BANDS.len()));
+    let signals = BANDS.map(|band| Signal::new(sines, band, 1, SHEET));
     let largest = |of, limit| signals.each_ref().map(|signal| largest(signal, of, limit));
 
     let share = f64::from(disturbance::MOST) / LARGEST_TONE;
     let share = format!("{:.2} %, {:.1} dB", 100.0 * share, 20.0 * share.log10());
-    line("as a share of the amplitude", [share.clone(), share]);
+    line("as a share of the amplitude", BANDS.map(|_| share.clone()));
     let gain = largest(|percent| Impairment::Amplitude(100.0 + percent), 10.0);
     line("a gain too large by", gain.map(|g| format!("{g:.2} %")));
     let late = largest(Impairment::Late, 0.1).map(|part| {
@@ -38,8 +41,8 @@ pub fn print(sines: &Sines) {
     );
 }
 
-fn line(name: &str, [band_1, band_2]: [String; 2]) {
-    println!("| {name} | {band_1} | {band_2} |");
+fn line(name: &str, bands: [String; BANDS.len()]) {
+    println!("| {name} | {} |", bands.join(" | "));
 }
 
 fn of_tones(amplitude: u16) -> String {

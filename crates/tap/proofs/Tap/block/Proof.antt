@@ -11,7 +11,7 @@ use Rattle.calls.specs.Outcome.{Outcome, outcome}
 use Rattle.receiver.specs.declared.Receiver.{Receiver}
 use Rattle.receiver.specs.Calls.{indexedOf}
 use Rattle.tap.specs.declared.Tap.{Tap}
-use Rattle.tap.proofs.Blocks.{zeros, read-number, read-part, read-part-indices, read-small, BothReadable, both-known, first-band, second-band, both-refusal, both-room, both-read}
+use Rattle.tap.proofs.Blocks.{zeros, read-number, read-part, read-part-indices, read-small, BothReadable, both-known, bands-few, both-refusal, both-room, both-read}
 use Rattle.tap.proofs.Tap.block.Statement.{statement}
 use Rattle.tap.proofs.Tap.block.Tie as tie
 
@@ -127,7 +127,7 @@ merge-requires c κs =
     let e = c .before .before .before .before .before in
     let w = e .before .before in
     let k = known e in (
-      (omega (arith, first-band (tap w) (samples w) k), omega (arith, second-band (tap w) (samples w) k)),
+      bands-few (tap w) (samples w) k,
       (
         (sym (a-part e) ∙ a-indices e, sym (b-part e) ∙ b-indices e),
         (

@@ -7,7 +7,8 @@ use borrow.Author.Tests.{eq-eqb, ne-eqb, lt-ltb, le-ltb, not-true, not-false}
 use lib.Dec.{eqb, ltb}
 use lib.ListN.{length}
 use Rattle.calls.specs.Refusals.{firstOf}
-use Rattle.tap.specs.Calls.{isPair, placesFor, blockTests}
+use Rattle.tones.specs.Bands.{isPair}
+use Rattle.tap.specs.Calls.{placesFor, blockTests}
 use Rattle.tap.proofs.Numbers.{by, number}
 use Rattle.tap.proofs.Tap.refusal.Statement.{statement}
 use Rattle.tap.proofs.Tap.refusal.Tie as tie
@@ -15,11 +16,11 @@ use Rattle.tap.proofs.Tap.refusal.Tie as tie
 -- the number by what the receivers answered
 answered : (s : tie.Start) → let a = s .args in
     firstOf (blockTests (a .self) (a .samples .now) (a .places))
-    ≡ by (a .one) (a .two) (isPair (a .self)) (ltb (a .places) (placesFor (length (a .samples .now))))
+    ≡ by (a .one) (a .two) (isPair (a .self .first .band) (a .self .second .band)) (ltb (a .places) (placesFor (length (a .samples .now))))
 answered s =
     let a = s .args in
     number (a .self) (a .samples .now) (a .places)
-    ∙ (λ i. by (sym (s .pre .0) i) (sym (s .pre .1) i) (isPair (a .self)) (ltb (a .places) (placesFor (length (a .samples .now)))))
+    ∙ (λ i. by (sym (s .pre .0) i) (sym (s .pre .1) i) (isPair (a .self .first .band) (a .self .second .band)) (ltb (a .places) (placesFor (length (a .samples .now)))))
 
 returns : tie.Need-returns
 returns c = sym (answered (c .before) ∙ rw (eq-eqb _ 2 (c .if1 .taken)) refl)
@@ -37,7 +38,7 @@ returns-2 c = let e = c .before in sym (answered (e .before) ∙ rw (one-other e
 is-pair-requires : tie.Need-is-pair-requires
 is-pair-requires c κs = tt
 
-paired : (c : tie.Else3) → isPair (c .before .before .before .before .args .self) ≡ true
+paired : (c : tie.Else3) → let t = c .before .before .before .before .args .self in isPair (t .first .band) (t .second .band) ≡ true
 paired c = sym (c .before .is-pair .ensures) ∙ not-false _ (c .if3 .left)
 
 returns-3 : tie.Need-returns-3
