@@ -49,6 +49,7 @@ extern "C" {
 #define MODEM_NO_STOP 256
 #define MODEM_CARRIER_LOST 257
 #define MODEM_BREAK 258
+#define MODEM_DOUBT 259
 
 /* A tap gives an event as 1,000 times its band plus the event. These are the two parts. */
 #define MODEM_TAP_BAND(number) ((number) / 1000)

@@ -1,6 +1,6 @@
-/* Prints the characters of the sheet on standard input, and on standard error a line for each fault and each break. Ends with
- * status 1 and the number on standard error if the sheet is refused, and with status 2 if reading or writing failed. From the
- * repository's root, after `./run lib` and `./run demo`, which builds the program that writes a sheet:
+/* Prints the characters of the sheet on standard input, and on standard error a line for each fault, each break and each doubtful
+ * bit. Ends with status 1 and the number on standard error if the sheet is refused, and with status 2 if reading or writing
+ * failed. From the repository's root, after `./run lib` and `./run demo`, which builds the program that writes a sheet:
  *
  *     cc -std=c99 -Itarget/lib -o sheet c/sheet.c target/lib/libmodem.a
  *     printf '1HELLO' | target/bin/modulate | ./sheet
@@ -18,8 +18,10 @@ static void put_event(uint16_t event)
         fputs("no stop bit\n", stderr);
     else if (event == MODEM_CARRIER_LOST)
         fputs("carrier lost\n", stderr);
-    else
+    else if (event == MODEM_BREAK)
         fputs("break\n", stderr);
+    else
+        fputs("doubtful bit\n", stderr);
 }
 
 /* The whole recording is one block, since a sheet has no more samples than a block may have. */

@@ -29,6 +29,10 @@ pub const LIMITS: Limits = Limits {
     last_silent: 15,
 };
 
+/// With up to so many samples of the later of two bits in a window, and from so many on,
+/// no disturbance makes it doubtful.
+pub const CLEAR: [i64; 2] = [12, 21];
+
 impl Limits {
     /// The bit whose tone wins for certain in a window that ends with `count`
     /// samples of the bit `later` and begins with samples of `earlier`.
@@ -106,6 +110,16 @@ pub fn winner([space, mark]: &[Energy; 2]) -> Option<u8> {
     }
 }
 
+/// The largest share of the larger energy that the smaller can be, in thousandths,
+/// rounded up.
+fn share([space, mark]: &[Energy; 2]) -> i128 {
+    let of = |smaller: &Energy, larger: &Energy| {
+        let larger = i128::from(larger.least.max(1));
+        (1_000 * i128::from(smaller.most) + larger - 1) / larger
+    };
+    of(space, mark).min(of(mark, space))
+}
+
 /// The level is good for certain.
 pub fn is_good([space, mark]: &[Energy; 2]) -> bool {
     space.least.max(mark.least) >= GOOD_ENERGY
@@ -156,6 +170,32 @@ pub fn margins(sines: &Sines, steps: [u16; 2], most: i16, limits: &Limits) -> Re
     Ok(())
 }
 
+/// The largest share of any window with up to `last` samples of the later of two bits,
+/// or with `first` or more, and with every sample altered by at most `most`. A window can
+/// be doubtful if its share is above 800.
+pub fn largest_share(
+    sines: &Sines,
+    steps: [u16; 2],
+    most: i16,
+    [last, first]: [i64; 2],
+) -> Option<i128> {
+    let sent = Sent {
+        sines,
+        steps,
+        tones: Pair::new(sines, steps, most),
+    };
+    let windows = beginnings(steps).into_iter().flat_map(|phase| {
+        let bits = [[0, 0], [0, 1], [1, 0], [1, 1]].into_iter();
+        bits.flat_map(move |bits| {
+            let counts = (0..=last).chain(first..WINDOW as i64);
+            counts.map(move |count| (phase, bits, count))
+        })
+    });
+    let shares = windows
+        .map(|(phase, [earlier, later], count)| share(&sent.two(phase, earlier, later, count)));
+    shares.max()
+}
+
 /// The windows of a sending.
 struct Sent<'a> {
     sines: &'a Sines,
@@ -186,12 +226,17 @@ impl Sent<'_> {
         })
     }
 
-    /// One bit that begins at the phase, and the bit behind it.
-    fn two_bits(&self, phase: u16, earlier: u8, later: u8, limits: &Limits) -> Result<(), String> {
+    /// The energies with `count` samples of the bit behind one that begins at the phase.
+    fn two(&self, phase: u16, earlier: u8, later: u8, count: i64) -> [Energy; 2] {
         let before = self.bit(phase, earlier);
         let behind = self.bit(end_of_bit(phase, self.steps[usize::from(earlier)]), later);
+        self.energies(&before, &behind, count)
+    }
+
+    /// One bit that begins at the phase, and the bit behind it.
+    fn two_bits(&self, phase: u16, earlier: u8, later: u8, limits: &Limits) -> Result<(), String> {
         for count in 0..WINDOW as i64 {
-            let energies = self.energies(&before, &behind, count);
+            let energies = self.two(phase, earlier, later, count);
             let what = || format!("{count} samples of {later} behind {earlier} at phase {phase}");
             ensure(is_good(&energies), || format!("{}: the level", what()))?;
             if let Some(bit) = limits.certain(earlier, later, count) {

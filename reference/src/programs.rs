@@ -1,7 +1,7 @@
 //! The programs of the specification: from the bytes of standard input to those of
 //! standard output.
 
-use crate::receiver::{self, places_needed, BREAK, CARRIER_LOST, MOST_SAMPLES, NO_STOP_BIT};
+use crate::receiver::{self, places_needed, BREAK, CARRIER_LOST, DOUBT, MOST_SAMPLES, NO_STOP_BIT};
 use crate::sheet::{self, MOST_BYTES};
 use crate::sine::Sines;
 use crate::transmitter::{self, Answer, CHARACTER_SAMPLES, MOST_CHARACTERS};
@@ -91,6 +91,7 @@ fn named(event: u16) -> String {
         NO_STOP_BIT => "nostop --".to_string(),
         CARRIER_LOST => "lost --".to_string(),
         BREAK => "break --".to_string(),
+        DOUBT => "doubt --".to_string(),
         _ => unreachable!("the receiver has no event {event}"),
     }
 }

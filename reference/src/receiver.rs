@@ -17,6 +17,7 @@ pub const GOOD_ENERGY: i64 = 32_400_000_000_000_000;
 pub const NO_STOP_BIT: u16 = 256;
 pub const CARRIER_LOST: u16 = 257;
 pub const BREAK: u16 = 258;
+pub const DOUBT: u16 = 259;
 
 /// What the specification calls the moment is the slot here: 0 start, 1 to 8 data,
 /// 9 stop. A break is held from its event until the line is back in mark.
@@ -203,6 +204,29 @@ pub(crate) fn is_good(space: i64, mark: i64) -> bool {
     space.max(mark) >= GOOD_ENERGY
 }
 
+/// What the weighing of a data or stop slot reports.
+#[derive(Clone, Copy, Debug, PartialEq, Eq)]
+enum Weighing {
+    Space,
+    Mark,
+    Doubtful,
+}
+
+/// It is doubtful when four times the larger energy is less than five times the
+/// smaller. Such products may not fit 64 bits. 0 against 0 is not doubtful.
+#[inline]
+fn weighing(space: i64, mark: i64) -> Weighing {
+    let larger = i128::from(space.max(mark));
+    let smaller = i128::from(space.min(mark));
+    if 4 * larger < 5 * smaller {
+        Weighing::Doubtful
+    } else if space > mark {
+        Weighing::Space
+    } else {
+        Weighing::Mark
+    }
+}
+
 /// Steps 3 to 5: the next run and stage, and the event if there is one.
 #[inline]
 pub(crate) fn decided(run: u8, stage: Stage, space: i64, mark: i64) -> (u8, Stage, Option<u16>) {
@@ -225,15 +249,29 @@ pub(crate) fn decided(run: u8, stage: Stage, space: i64, mark: i64) -> (u8, Stag
     (run, stage, event)
 }
 
-/// The same from a decision: the level is good, and space is above mark. A run
-/// or a stage out of its range comes back as it is, without an event.
-pub fn moved_by(run: u8, stage: Stage, good: bool, space: bool) -> (u8, Stage, Option<u16>) {
+/// What two energies decide.
+#[derive(Clone, Copy, Debug, PartialEq, Eq)]
+pub struct Decision {
+    /// The level is good.
+    pub good: bool,
+    /// Space is above mark.
+    pub space: bool,
+    pub doubtful: bool,
+}
+
+/// The same from a decision. A run or a stage out of its range comes back as it is,
+/// without an event.
+pub fn moved_by(run: u8, stage: Stage, decision: Decision) -> (u8, Stage, Option<u16>) {
     if run > FULL_RUN || !stage.is_in_range() {
         return (run, stage, None);
     }
-    let larger = if good { GOOD_ENERGY } else { GOOD_ENERGY - 1 };
-    let [space, mark] = if space { [larger, 0] } else { [0, larger] };
-    decided(run, stage, space, mark)
+    let larger = GOOD_ENERGY - i64::from(!decision.good);
+    let smaller = if decision.doubtful { larger - 1 } else { 0 };
+    if decision.space {
+        decided(run, stage, larger, smaller)
+    } else {
+        decided(run, stage, smaller, larger)
+    }
 }
 
 pub(crate) fn waiting(wait: u8, slot: u8, byte: u8) -> Stage {
@@ -243,31 +281,34 @@ pub(crate) fn waiting(wait: u8, slot: u8, byte: u8) -> Stage {
 /// Step 5 when the wait is over.
 pub(crate) fn taken(slot: u8, byte: u8, good: bool, space: i64, mark: i64) -> (Stage, Option<u16>) {
     if slot == 0 {
-        // Start.
+        // Start, which compares only.
         if good && space > mark {
             (waiting(BIT, 1, 0), None)
         } else {
             (Stage::Searching, None)
         }
-    } else if slot < LAST_SLOT {
-        // Data.
-        if good {
-            let bit = u8::from(mark >= space);
-            (waiting(BIT, slot + 1, byte + (bit << (slot - 1))), None)
-        } else {
-            (Stage::Searching, Some(CARRIER_LOST))
-        }
+    } else if !good {
+        (Stage::Searching, Some(CARRIER_LOST))
     } else {
-        // Stop.
-        let (stage, event) = if !good {
-            (Stage::Searching, CARRIER_LOST)
-        } else if space > mark && byte == 0 {
-            (Stage::Held, BREAK)
-        } else if space > mark {
-            (Stage::Searching, NO_STOP_BIT)
-        } else {
-            (Stage::Searching, u16::from(byte))
-        };
-        (stage, Some(event))
+        match weighing(space, mark) {
+            Weighing::Doubtful => (Stage::Searching, Some(DOUBT)),
+            Weighing::Space => bit_taken(slot, byte, 0),
+            Weighing::Mark => bit_taken(slot, byte, 1),
+        }
     }
+}
+
+/// The bit of a data or stop slot, of which there is no doubt.
+fn bit_taken(slot: u8, byte: u8, bit: u8) -> (Stage, Option<u16>) {
+    if slot < LAST_SLOT {
+        // Data.
+        return (waiting(BIT, slot + 1, byte + (bit << (slot - 1))), None);
+    }
+    // Stop.
+    let (stage, event) = match (bit, byte) {
+        (0, 0) => (Stage::Held, BREAK),
+        (0, _) => (Stage::Searching, NO_STOP_BIT),
+        _ => (Stage::Searching, u16::from(byte)),
+    };
+    (stage, Some(event))
 }

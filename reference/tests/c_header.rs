@@ -59,7 +59,7 @@ fn it_declares_what_the_libraries_have() {
 }
 
 /// A number written as a C program would use it, and what it is.
-const NUMBERS: [(&str, u32); 37] = [
+const NUMBERS: [(&str, u32); 38] = [
     ("MODEM_ACCEPTED", 0),
     ("MODEM_NO_BAND", 1),
     ("MODEM_BAD_STATE", 2),
@@ -89,6 +89,7 @@ const NUMBERS: [(&str, u32); 37] = [
     ("MODEM_NO_STOP", 256),
     ("MODEM_CARRIER_LOST", 257),
     ("MODEM_BREAK", 258),
+    ("MODEM_DOUBT", 259),
     ("MODEM_TAP_BAND(1258)", 1),
     ("MODEM_TAP_EVENT(1258)", 258),
     ("4 / MODEM_TAP_BAND(1000 + 1065)", 2),

@@ -3,7 +3,7 @@
 use crate::common::c::{compiled, file, Linked};
 use crate::common::forms;
 use crate::common::process::printed;
-use crate::common::recording::{bits, keyed, no_stop_bit, sending};
+use crate::common::recording::{bits, keyed, keyed_in_doubt, no_stop_bit, sending};
 use crate::common::sheets::sheet;
 use crate::common::{BANDS, IDLE_SAMPLES};
 use std::fs::File;
@@ -48,7 +48,7 @@ fn characters_of_a_sheet() {
     }
 }
 
-/// A fault or a break is told apart from the characters before and behind it.
+/// A fault, a break or a doubt is told apart from the characters before and behind it.
 #[test]
 fn faults_of_a_sheet() {
     for band in BANDS {
@@ -63,6 +63,11 @@ fn faults_of_a_sheet() {
             let found = run_on(&sheet(band, &keyed(band, &bits)));
             assert_eq!(found, expected, "band {band}");
         }
+        // The last data bit of FF, behind the leader and the start bit.
+        let bits = bits(b"\xffB");
+        let expected = (b"B".to_vec(), "doubtful bit\n".to_string(), 0);
+        let found = run_on(&sheet(band, &keyed_in_doubt(band, &bits, 3 + 8, 0)));
+        assert_eq!(found, expected, "band {band}");
     }
 }
 

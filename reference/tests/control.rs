@@ -1,11 +1,12 @@
 //! The rule of one sample, over every run, stage and decision: a block of one
 //! sample, whose window is made for the decision.
 
-use crate::common::receiver::{BREAK, WINDOW};
+use crate::common::doubtful::{edge, tie, BELOW, FIVE_TO_FOUR, ONE_LESS};
+use crate::common::receiver::{BREAK, DOUBT, WINDOW};
 use crate::common::states::{byte_limit, longest_wait, window_of, HELD};
 use crate::common::BANDS;
 use reference::library::{receiver_block, Numbers};
-use reference::receiver::{moved_by, State};
+use reference::receiver::{moved_by, Decision, State};
 
 /// Every stage in its ranges, with some of the bytes: the search, a held break, and
 /// waits.
@@ -24,16 +25,25 @@ fn stages() -> Vec<[u8; 4]> {
     stages
 }
 
-/// 32 samples of a tone, and what the energies of space and mark in them decide:
-/// whether the level is good, and whether space is above mark.
-fn windows(band: u8) -> [([i16; WINDOW], bool, bool); 5] {
+/// 32 samples of a tone or of both, and what the energies of space and mark in them
+/// decide: whether the level is good, whether space is above mark, and whether it is
+/// doubtful.
+fn windows(band: u8) -> [([i16; WINDOW], [bool; 3]); 12] {
     let [space, mark] = [0, 1].map(|bit| move |part| window_of(band, bit, part));
+    let [more_space, more_mark] = [0, 1].map(|bit| move |row| edge(band, bit, row).window);
     [
-        (space(1), true, true),
-        (mark(1), true, false),
-        (space(4), false, true),
-        (mark(4), false, false),
-        ([0; WINDOW], false, false),
+        (space(1), [true, true, false]),
+        (mark(1), [true, false, false]),
+        (space(4), [false, true, false]),
+        (mark(4), [false, false, false]),
+        ([0; WINDOW], [false; 3]),
+        (more_space(FIVE_TO_FOUR), [true, true, false]),
+        (more_mark(FIVE_TO_FOUR), [true, false, false]),
+        (more_space(ONE_LESS), [true, true, true]),
+        (more_mark(ONE_LESS), [true, false, true]),
+        (tie(band).window, [true, false, true]),
+        (more_space(BELOW), [false, true, true]),
+        (more_mark(BELOW), [false, false, true]),
     ]
 }
 
@@ -44,8 +54,7 @@ fn check(
     run: u8,
     stage: [u8; 4],
     window: &[i16; WINDOW],
-    good: bool,
-    space: bool,
+    [good, space, doubtful]: [bool; 3],
 ) -> Option<u16> {
     let mut before = [5; WINDOW];
     before[1..].copy_from_slice(&window[..WINDOW - 1]);
@@ -59,7 +68,12 @@ fn check(
         slot,
         byte,
     };
-    let (run, stage, event) = moved_by(run, State::from(handed).stage, good, space);
+    let decision = Decision {
+        good,
+        space,
+        doubtful,
+    };
+    let (run, stage, event) = moved_by(run, State::from(handed).stage, decision);
     let next = State {
         band,
         window: *window,
@@ -68,33 +82,44 @@ fn check(
     };
     let mut events = [9_999];
     let found = receiver_block(handed, &window[WINDOW - 1..], &mut events);
-    let what = format!("{handed:?}, {good}, {space}");
-    assert_eq!(found.state, next.into(), "{what}");
+    let what = || format!("{handed:?}, {decision:?}");
+    assert_eq!(found.state, next.into(), "{}", what());
     assert_eq!(
         (found.number, found.count),
         (0, usize::from(event.is_some())),
-        "{what}"
+        "{}",
+        what()
     );
-    assert_eq!(events, [event.unwrap_or(9_999)], "{what}");
+    assert_eq!(events, [event.unwrap_or(9_999)], "{}", what());
     event
 }
 
 #[test]
 fn every_run_stage_and_decision() {
-    let (mut count, mut reported, mut breaks) = (0, 0, 0);
+    let (mut count, mut reported, mut breaks, mut doubts) = (0, 0, 0, 0);
+    let stages = stages();
     for band in BANDS {
-        for (window, good, space) in windows(band) {
+        for (window, decision) in windows(band) {
             for run in 0..=32 {
-                for stage in stages() {
+                for &stage in &stages {
                     count += 1;
-                    let event = check(band, run, stage, &window, good, space);
+                    let event = check(band, run, stage, &window, decision);
                     reported += usize::from(event.is_some());
                     breaks += usize::from(event == Some(BREAK));
+                    doubts += usize::from(event == Some(DOUBT));
                 }
             }
         }
     }
-    assert!(count > 600_000 && reported > 10_000, "{count}, {reported}");
-    // One window in each band and one stage, with every run.
-    assert_eq!(breaks, 33 * BANDS.len());
+    assert!(
+        count > 1_500_000 && reported > 30_000,
+        "{count}, {reported}"
+    );
+    // Two windows in each band and one stage, with every run.
+    assert_eq!(breaks, 2 * 33 * BANDS.len());
+    // Three windows in each band and the stages whose wait is over, with every run.
+    let over = stages
+        .iter()
+        .filter(|&&[_, wait, slot, _]| wait == 1 && slot > 0);
+    assert_eq!(doubts, 3 * over.count() * 33 * BANDS.len());
 }

@@ -1,10 +1,10 @@
 //! The program `demodulate` against the reference, on sheets that are read.
 
 use crate::common::process::printed;
-use crate::common::receiver::{BREAK, CARRIER_LOST, NO_STOP_BIT};
+use crate::common::receiver::{BREAK, CARRIER_LOST, DOUBT, NO_STOP_BIT};
 use crate::common::recording::{
-    around_0, as_events, disturbed, every_character, keyed, no_stop_bit, sending, space,
-    surrounded, toned,
+    around_0, as_events, bits, disturbed, every_character, keyed, keyed_in_doubt, no_stop_bit,
+    sending, space, surrounded, toned,
 };
 use crate::common::sheets::sheet;
 use crate::common::states::any_samples;
@@ -33,6 +33,7 @@ fn listed(events: &[u16]) -> String {
         NO_STOP_BIT => format!("{place} nostop --\n"),
         CARRIER_LOST => format!("{place} lost --\n"),
         BREAK => format!("{place} break --\n"),
+        DOUBT => format!("{place} doubt --\n"),
         _ => format!("{place} char {}{}\n", digit(event / 16), digit(event % 16)),
     };
     let lines: String = events.iter().enumerate().map(line).collect();
@@ -111,6 +112,20 @@ fn a_break_that_is_never_let_go() {
     }
 }
 
+/// Every data bit in doubt, and the stop bit, of characters with mark behind it.
+#[test]
+fn a_doubtful_bit() {
+    for band in BANDS {
+        for slot in 1..=9 {
+            let mut bits = bits(&[0x29]);
+            bits[3 + slot..].fill(1);
+            let samples = keyed_in_doubt(band, &bits, 3 + slot, slot % 2);
+            let found = check(band, &samples);
+            assert_eq!(found, "number kind value\n0 doubt --\n", "slot {slot}");
+        }
+    }
+}
+
 /// Space that is only just long enough for a start bit, again and again.
 #[test]
 fn places_of_three_digits() {
@@ -129,15 +144,17 @@ fn faults_between_characters() {
         let mut samples = Vec::new();
         let mut events = Vec::new();
         // As many as one sheet can hold.
-        for _ in 0..7 {
+        for _ in 0..5 {
             let message = random.bytes(1);
             samples.extend(sending(band, &message));
             samples.extend(surrounded(&space(band, 40), 100, 100));
             samples.extend(keyed(band, &no_stop_bit(&[0x20])));
             // A start bit and nine more bits of space. The next leader ends it.
-            samples.extend(surrounded(&space(band, 330), 100, 100));
+            samples.extend(surrounded(&space(band, 360), 100, 100));
+            let in_doubt = keyed_in_doubt(band, &bits(&[0xff]), 3 + 8, 0);
+            samples.extend(surrounded(&in_doubt, 0, 100));
             events.extend(as_events(&message));
-            events.extend([CARRIER_LOST, NO_STOP_BIT, BREAK]);
+            events.extend([CARRIER_LOST, NO_STOP_BIT, BREAK, DOUBT]);
         }
         assert_eq!(check(band, &samples), listed(&events), "band {band}");
     }
@@ -146,13 +163,14 @@ fn faults_between_characters() {
 #[test]
 fn random_samples() {
     let mut random = Random::new(83);
-    let mut lines = 0;
+    let (mut lines, mut doubts) = (0, 0);
     for band in BANDS.into_iter().cycle().take(800) {
         let count = random.below(4_000);
         let found = check(band, &any_samples(&mut random, band, count));
         lines += found.lines().count() - 1;
+        doubts += found.matches(" doubt --\n").count();
     }
-    assert!(lines > 800, "{lines}");
+    assert!(lines > 800 && doubts > 50, "{lines}, {doubts}");
 }
 
 #[test]

@@ -13,6 +13,7 @@ mod control;
 mod demodulate;
 mod demodulate_refusals;
 mod documents;
+mod doubt;
 mod examples;
 mod indexed;
 mod indexed_refusals;

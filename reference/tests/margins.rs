@@ -2,7 +2,7 @@
 //! close its limits are.
 
 use crate::common::sines;
-use reference::disturbance::{beginnings, margins, Limits, LIMITS, MOST};
+use reference::disturbance::{beginnings, largest_share, margins, Limits, CLEAR, LIMITS, MOST};
 use reference::transmitter::STEPS;
 
 /// Of each band the phase between the beginnings of bits, and the largest
@@ -63,4 +63,40 @@ fn no_limit_can_be_closer() {
     assert_eq!(failing(earlier), [1, 2, 3]);
     assert_eq!(failing(later), [1, 2, 3]);
     assert_eq!(failing(silent), [1]);
+}
+
+/// The window of a slot is that of its bit, but for one sample of the bit before or up to
+/// three of the next.
+const SLOTS: [i64; 2] = [3, 31];
+
+/// Of each band the largest share of the larger energy that the smaller can be in the
+/// window of a slot, in thousandths.
+#[test]
+fn how_far_slots_are_from_doubt() {
+    let shares = EXPECTED.map(|(band, ..)| largest_share(sines(), steps(band), MOST, SLOTS));
+    assert_eq!(shares, [274, 255, 279, 257].map(Some));
+}
+
+/// The bands in which a window within these limits can be doubtful under a disturbance.
+fn doubtful(most: i16, limits: [i64; 2]) -> Vec<u8> {
+    let bands = EXPECTED.map(|(band, ..)| band).into_iter();
+    let can_be = |&band: &u8| largest_share(sines(), steps(band), most, limits) > Some(800);
+    bands.filter(can_be).collect()
+}
+
+#[test]
+fn no_slot_is_doubtful() {
+    for most in [MOST, 7 * MOST] {
+        assert_eq!(doubtful(most, SLOTS), [], "{most}");
+    }
+    assert_eq!(doubtful(10 * MOST, SLOTS), [1, 2, 3, 4]);
+}
+
+/// Nor is any window that is not about half of each of two bits.
+#[test]
+fn where_there_is_no_doubt() {
+    let [last, first] = CLEAR;
+    assert_eq!(doubtful(MOST, CLEAR), []);
+    assert_eq!(doubtful(MOST, [last + 1, first]), [1, 3]);
+    assert_eq!(doubtful(MOST, [last, first - 1]), [1, 3]);
 }

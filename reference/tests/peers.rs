@@ -1,5 +1,6 @@
 //! The receivers written for speed answer as the step-by-step one does.
 
+use crate::common::met::kinds;
 use crate::common::receiver::{assert_events, fresh, guarded, in_numbers};
 use crate::common::recording::{
     around_0, as_events, disturbed, every_character, sending, sending_of, surrounded, Item,
@@ -84,6 +85,7 @@ fn breaks() {
 fn random_calls() {
     let mut random = Random::new(42);
     let mut seen = [0; 6];
+    let mut doubts = 0;
     for _ in 0..25_000 {
         let state = if random.below(8) == 0 {
             hostile_state(&mut random)
@@ -91,11 +93,13 @@ fn random_calls() {
             good_state(&mut random)
         };
         let (samples, places) = any_block(&mut random, state.band);
-        let (number, _, _) = compare(state, &samples, places);
+        let (number, events, _) = compare(state, &samples, places);
         seen[usize::from(number)] += 1;
+        doubts += kinds(&events)[4];
     }
     for number in [0, 2, 3, 4, 5] {
         assert!(seen[number] >= 10, "{number} was too rare: {seen:?}");
     }
     assert_eq!(seen[1], 0);
+    assert!(doubts >= 200, "{doubts}");
 }

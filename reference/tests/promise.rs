@@ -1,7 +1,9 @@
 //! The promise, sent and read by the library: two recordings, each in any band, are
-//! each read as the characters sent, and so alike exactly if the messages are.
+//! each read as the characters sent, without a doubt, and so alike exactly if the
+//! messages are.
 
 use crate::common::disturbances::largest;
+use crate::common::met::assert_no_doubt;
 use crate::common::receiver::assert_events;
 use crate::common::recording::{around_0, as_events, disturbed};
 use crate::common::rows::read_in_turn;
@@ -63,6 +65,7 @@ fn check(random: &mut Random, band: u8, message: &[u8]) {
     let longest = [40, 400, 16_384][random.below(3)];
     let (events, _) = read_in_turn(random, band, &recording, longest);
     let what = || format!("band {band}, blocks of up to {longest}, {message:?}");
+    assert_no_doubt(&events, what);
     assert_events(&events, &as_events(message), what);
 }
 

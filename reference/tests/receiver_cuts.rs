@@ -1,6 +1,6 @@
 //! Recordings cut anywhere, with silence or another recording behind.
 
-use crate::common::receiver::{fresh, read, read_on, BREAK, CARRIER_LOST, EVENTS, NO_STOP_BIT};
+use crate::common::receiver::{fresh, read, read_on, CARRIER_LOST, DOUBT, EVENTS, NO_STOP_BIT};
 use crate::common::recording::{around_0, as_events, disturbed, sending, surrounded};
 use crate::common::{BANDS, CHARACTER_SAMPLES, IDLE_SAMPLES};
 use reference::random::Random;
@@ -14,15 +14,12 @@ fn recording(random: &mut Random, band: u8) -> (Vec<u16>, Vec<i16>) {
 }
 
 /// The events of which one may be told of a character that was cut off behind so many
-/// of its samples: that it is lost, or in its stop bit the character.
-fn cut_off(band: u8, character: u16, samples: usize) -> Vec<u16> {
-    let no_stop_bit = if character == 0 { BREAK } else { NO_STOP_BIT };
-    match (band, samples) {
-        (_, 0) => vec![],
-        (_, 1..=288) => vec![CARRIER_LOST],
-        // With 11 samples of mark alone in a window, space can be the stronger.
-        (3, 299) => vec![CARRIER_LOST, no_stop_bit, character],
-        _ => vec![CARRIER_LOST, character],
+/// of its samples: that it is lost or a bit doubtful, or in its stop bit the character.
+fn cut_off(character: u16, samples: usize) -> Vec<u16> {
+    match samples {
+        0 => vec![],
+        1..=288 => vec![CARRIER_LOST, DOUBT],
+        _ => vec![CARRIER_LOST, DOUBT, character],
     }
 }
 
@@ -38,7 +35,7 @@ fn read_cut(band: u8, message: &[u16], recording: &[i16], cut: usize) -> Option<
     assert!(events.len() <= whole + 1, "{}", what());
     let behind = events.get(whole).copied();
     if let Some(event) = behind {
-        let told = cut_off(band, message[whole], rest);
+        let told = cut_off(message[whole], rest);
         assert!(told.contains(&event), "{}", what());
     }
     behind
@@ -51,8 +48,10 @@ fn silence_behind_every_cut() {
         let (message, recording) = recording(&mut random, band);
         let told =
             (0..=recording.len()).filter_map(|cut| read_cut(band, &message, &recording, cut));
-        let lost = told.filter(|&event| event == CARRIER_LOST).count();
-        assert!(lost >= 300, "band {band}: {lost}");
+        let told: Vec<u16> = told.collect();
+        let count = |event| told.iter().filter(|&&told| told == event).count();
+        let [lost, doubts] = [CARRIER_LOST, DOUBT].map(count);
+        assert!(lost >= 300 && doubts >= 30, "band {band}: {lost}, {doubts}");
     }
 }
 
@@ -74,7 +73,7 @@ fn another_recording_behind_every_cut() {
         }
     }
     let characters: usize = seen[..256].iter().sum();
-    let faults = [NO_STOP_BIT, CARRIER_LOST].map(|event| seen[usize::from(event)]);
+    let faults = [NO_STOP_BIT, CARRIER_LOST, DOUBT].map(|event| seen[usize::from(event)]);
     assert!(characters >= 7_000, "{characters}");
     assert!(faults.iter().all(|&count| count >= 1_000), "{faults:?}");
 }

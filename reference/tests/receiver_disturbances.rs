@@ -1,6 +1,7 @@
 //! Recordings with a disturbance of at most 100 in each sample. The events must
-//! be the characters all the same.
+//! be the characters all the same, and no bit is doubtful.
 
+use crate::common::met::assert_no_doubt;
 use crate::common::receiver::{assert_events, read};
 use crate::common::recording::{
     around_0, as_events, bits, disturbed, every_character, sending, surrounded,
@@ -21,6 +22,7 @@ fn read_under(what: &str, seed: u64, mut number: impl FnMut(&mut Random, u8, usi
         let recording = disturbed(&recording, |place| number(&mut random, band, place));
         let told = || format!("{what}, band {band}");
         let events = read(band, &recording, 1_000);
+        assert_no_doubt(&events, told);
         assert_events(&events, &as_events(&message), told);
     }
 }
@@ -94,6 +96,7 @@ fn shaped_like_the_other_tone() {
                 for recording in [other, fainter] {
                     let what = || format!("band {band}, shape {shape}, phase {phase}");
                     let events = read(band, &recording, 1_600);
+                    assert_no_doubt(&events, what);
                     assert_events(&events, &as_events(message), what);
                 }
             }

@@ -1,11 +1,12 @@
 //! Windows that lie exactly on the edge: equal energies, energies that differ
-//! by 1, and the least energy of a good level. Other tests hardly ever meet
-//! one.
+//! by 1, the least energy of a good level, and energies that are 5 to 4. Other tests
+//! hardly ever meet one.
 
-use crate::common::receiver::{compare_accepted, BREAK, CARRIER_LOST, NO_STOP_BIT, WINDOW};
-use crate::common::states::{steps, with_stage, HELD};
+use crate::common::doubtful;
+use crate::common::receiver::{BREAK, CARRIER_LOST, DOUBT, NO_STOP_BIT, WINDOW};
+use crate::common::states::{steps, HELD};
+use crate::common::weighed::{Weighed, LEAST_GOOD};
 use crate::common::{sines, BANDS};
-use reference::library::Numbers;
 
 /// A window with I and Q of space, then of mark.
 struct Case {
@@ -273,37 +274,20 @@ const CASES: [Case; 7 * BANDS.len()] = [
     },
 ];
 
-const LEAST_GOOD: i64 = 32_400_000_000_000_000;
-
 impl Case {
     fn energies(&self) -> (i64, i64) {
         let [space_i, space_q, mark_i, mark_q] = self.sums.map(|sum| sum * sum);
         (space_i + space_q, mark_i + mark_q)
     }
+}
 
-    fn good(&self) -> bool {
-        let (space, mark) = self.energies();
-        space.max(mark) >= LEAST_GOOD
-    }
-
-    /// The stage and the event after the window's last sample, which is read
-    /// behind the others from the given run and stage.
-    fn read(&self, run: u8, stage: [u8; 4]) -> ([u8; 4], Vec<u16>) {
-        // The oldest sample leaves; it would change every sum if it stayed.
-        let mut window = [1_234; WINDOW];
-        window[1..].copy_from_slice(&self.window[..WINDOW - 1]);
-        let state = Numbers {
-            band: self.band,
-            window,
-            run,
-            ..with_stage(stage)
-        };
-        let reading = compare_accepted(state, &self.window[WINDOW - 1..]);
-        let next = reading.answer.state;
-        assert_eq!(next.window, self.window);
-        assert_eq!(next.run, if self.good() { (run + 1).min(32) } else { 0 });
-        (next.stage_numbers(), reading.events().to_vec())
-    }
+/// These, those at the edge of doubt, and silence.
+fn windows() -> impl Iterator<Item = Weighed> {
+    let cases = CASES.iter().map(|case| (case.band, case.window));
+    let silent = BANDS.into_iter().map(|band| (band, [0; WINDOW]));
+    let weighed = cases.chain(silent);
+    let weighed = weighed.map(|(band, window)| Weighed::new(band, window));
+    weighed.chain(doubtful::all())
 }
 
 #[test]
@@ -322,6 +306,9 @@ fn the_sums_are_those_of_the_windows() {
             weighed(&|j| sines().s(j * mark)),
         ];
         assert_eq!(sums, case.sums);
+        let (space, mark) = case.energies();
+        let weighed = Weighed::new(case.band, case.window);
+        assert_eq!([weighed.space, weighed.mark], [space, mark].map(i128::from));
     }
 }
 
@@ -333,7 +320,7 @@ fn each_band_has_each_edge() {
             .iter()
             .map(|case| {
                 let (space, mark) = case.energies();
-                (space - mark, space.max(mark) - LEAST_GOOD)
+                (space - mark, i128::from(space.max(mark)) - LEAST_GOOD)
             })
             .collect();
         assert_eq!(found[..3], [(0, 0), (1, 1), (-1, 1)]);
@@ -344,16 +331,43 @@ fn each_band_has_each_edge() {
     }
 }
 
-/// Only a full run and space above mark end the search.
+/// How far five times the smaller energy is above four times the larger, row by row.
+/// Only above 0 there is a doubt.
+const ABOVE: [i128; doubtful::ENERGIES.len()] = [0, 4, -4, 5, 1, -3, 2, -2, 0, 185, 1];
+
+#[test]
+fn each_band_has_each_edge_of_doubt() {
+    for (row, [larger, smaller]) in doubtful::ENERGIES.into_iter().enumerate() {
+        assert_eq!(5 * smaller - 4 * larger, ABOVE[row], "row {row}");
+        let doubtful = doubtful::DOUBTFUL.contains(&row);
+        assert_eq!(doubtful, ABOVE[row] > 0, "row {row}");
+        let good = row != doubtful::BELOW;
+        for band in BANDS {
+            let found = [0, 1].map(|bit| doubtful::edge(band, bit, row));
+            let energies = found.map(|edge| [edge.space, edge.mark]);
+            let expected = [[larger, smaller], [smaller, larger]];
+            assert_eq!(energies, expected, "band {band}, row {row}");
+            for edge in found {
+                let decided = (edge.is_good(), edge.is_doubtful());
+                assert_eq!(decided, (good, doubtful), "band {band}, row {row}");
+            }
+        }
+    }
+    for tie in BANDS.map(doubtful::tie) {
+        assert_eq!(tie.space, tie.mark);
+        assert_eq!((tie.is_good(), tie.is_doubtful()), (true, true));
+    }
+}
+
+/// Only a full run and space above mark end the search, in doubt or not.
 #[test]
 fn searching() {
-    for case in &CASES {
-        let (space, mark) = case.energies();
+    for window in windows() {
         for run in 0..=32 {
-            let (stage, events) = case.read(run, [0; 4]);
-            let found = case.good() && run >= 31 && space > mark;
+            let found = window.is_good() && run >= 31 && window.space > window.mark;
             let expected = if found { [1, 16, 0, 0] } else { [0; 4] };
-            assert_eq!((stage, events), (expected, vec![]), "run {run}");
+            let told = window.read(run, [0; 4]);
+            assert_eq!(told, (expected, vec![]), "run {run}, {window:?}");
         }
     }
 }
@@ -361,78 +375,103 @@ fn searching() {
 /// Nothing is decided before the wait is over.
 #[test]
 fn waiting() {
-    for case in &CASES {
+    for window in windows() {
         for wait in 2..=32 {
             for slot in u8::from(wait > 16)..=9 {
-                let (stage, events) = case.read(5, [1, wait, slot, 0]);
-                assert_eq!((stage, events), ([1, wait - 1, slot, 0], vec![]));
+                let told = window.read(5, [1, wait, slot, 0]);
+                assert_eq!(told, ([1, wait - 1, slot, 0], vec![]), "{window:?}");
             }
         }
     }
 }
 
+/// A start bit is in no doubt.
 #[test]
 fn start() {
-    for case in &CASES {
-        let (space, mark) = case.energies();
-        let (stage, events) = case.read(0, [1, 1, 0, 0]);
-        let begun = case.good() && space > mark;
-        let expected = if begun { [1, 32, 1, 0] } else { [0; 4] };
-        assert_eq!((stage, events), (expected, vec![]));
+    for window in windows() {
+        for run in [0, 31, 32] {
+            let begun = window.is_good() && window.space > window.mark;
+            let expected = if begun { [1, 32, 1, 0] } else { [0; 4] };
+            let told = window.read(run, [1, 1, 0, 0]);
+            assert_eq!(told, (expected, vec![]), "{window:?}");
+        }
     }
 }
 
-/// A tie is a mark here.
+/// A tie is a doubt here.
 #[test]
 fn data() {
-    for case in &CASES {
-        let (space, mark) = case.energies();
+    for window in windows() {
         for slot in 1..=8 {
             let place = 1 << (slot - 1);
             for byte in [0, place - 1, place / 2] {
-                let expected = if !case.good() {
+                let expected = if !window.is_good() {
                     ([0; 4], vec![CARRIER_LOST])
-                } else if mark >= space {
+                } else if window.is_doubtful() {
+                    ([0; 4], vec![DOUBT])
+                } else if window.mark > window.space {
                     ([1, 32, slot + 1, byte + place], vec![])
                 } else {
                     ([1, 32, slot + 1, byte], vec![])
                 };
-                assert_eq!(case.read(0, [1, 1, slot, byte]), expected);
+                for run in [0, 31, 32] {
+                    let told = window.read(run, [1, 1, slot, byte]);
+                    assert_eq!(told, expected, "slot {slot}, {byte}, {window:?}");
+                }
             }
         }
     }
 }
 
+/// A doubt is neither a missing stop bit nor a break, whatever the byte, and no break
+/// is held behind it.
 #[test]
 fn stop() {
-    for case in &CASES {
-        let (space, mark) = case.energies();
+    for window in windows() {
         for byte in 0..=255 {
-            let (stage, event) = if !case.good() {
+            let (stage, event) = if !window.is_good() {
                 ([0; 4], CARRIER_LOST)
-            } else if space > mark && byte == 0 {
-                (HELD, BREAK)
-            } else if space > mark {
-                ([0; 4], NO_STOP_BIT)
-            } else {
+            } else if window.is_doubtful() {
+                ([0; 4], DOUBT)
+            } else if window.mark > window.space {
                 ([0; 4], u16::from(byte))
+            } else if byte == 0 {
+                (HELD, BREAK)
+            } else {
+                ([0; 4], NO_STOP_BIT)
             };
-            let found = case.read(31, [1, 1, 9, byte]);
-            assert_eq!(found, (stage, vec![event]));
+            let told = window.read(31, [1, 1, 9, byte]);
+            assert_eq!(told, (stage, vec![event]), "{byte}, {window:?}");
         }
     }
 }
 
-/// Only a full run and mark at least space end a break. A tie ends it.
+/// Only a full run and mark at least space end a break. A tie ends it, and so does any
+/// other doubt with mark the larger.
 #[test]
 fn holding() {
-    for case in &CASES {
-        let (space, mark) = case.energies();
+    for window in windows() {
         for run in 0..=32 {
-            let (stage, events) = case.read(run, HELD);
-            let ended = case.good() && run >= 31 && mark >= space;
+            let ended = window.is_good() && run >= 31 && window.mark >= window.space;
             let expected = if ended { [0; 4] } else { HELD };
-            assert_eq!((stage, events), (expected, vec![]), "run {run}");
+            let told = window.read(run, HELD);
+            assert_eq!(told, (expected, vec![]), "run {run}, {window:?}");
+        }
+    }
+}
+
+/// 0 against 0 is not doubtful, and has no good level.
+#[test]
+fn silence() {
+    for band in BANDS {
+        let silence = Weighed::new(band, [0; WINDOW]);
+        assert_eq!([silence.space, silence.mark], [0; 2], "band {band}");
+        assert!(!silence.is_doubtful(), "band {band}");
+        for slot in 1..=9 {
+            for run in 0..=32 {
+                let told = silence.read(run, [1, 1, slot, 0]);
+                assert_eq!(told, ([0; 4], vec![CARRIER_LOST]), "slot {slot}");
+            }
         }
     }
 }

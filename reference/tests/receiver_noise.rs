@@ -21,7 +21,7 @@ fn noise_of_full_range() {
     for band in BANDS {
         let samples = noise(&mut random, 8_191, 400_000);
         let kinds = read(&mut random, band, &samples, 500);
-        assert_frequent(kinds, [0, 0, 300, 0]);
+        assert_frequent(kinds, [0, 0, 300, 0, 10]);
     }
 }
 
@@ -31,7 +31,7 @@ fn bursts_of_tone_in_noise() {
     for band in BANDS {
         let samples = any_samples(&mut random, band, 1_600_000);
         let kinds = read(&mut random, band, &samples, 2_000);
-        assert_frequent(kinds, [50, 50, 300, 50]);
+        assert_frequent(kinds, [50, 50, 300, 50, 50]);
     }
 }
 
@@ -40,7 +40,7 @@ fn bursts_of_tone_in_noise() {
 fn sendings_in_loud_noise() {
     let mut random = Random::new(20);
     for band in BANDS {
-        let mut all = [0; 4];
+        let mut all = [0; 5];
         for most in [500, 1_000, 2_000, 2_191, 4_000, 8_000, 16_000] {
             let message = random.bytes(150);
             let mut samples = sending(band, &message);
@@ -53,7 +53,7 @@ fn sendings_in_loud_noise() {
                 *all += kind;
             }
         }
-        assert_frequent(all, [900, 5, 0, 0]);
+        assert_frequent(all, [850, 5, 0, 0, 50]);
     }
 }
 
@@ -63,7 +63,7 @@ fn sendings_in_loud_noise() {
 fn sendings_near_the_least_good_level() {
     let mut random = Random::new(21);
     for band in BANDS {
-        let mut all = [0; 4];
+        let mut all = [0; 5];
         for loudness in (1_700..=2_100).step_by(20) {
             let message = random.bytes(40);
             let samples: Vec<i16> = sending(band, &message)
@@ -76,7 +76,7 @@ fn sendings_near_the_least_good_level() {
                 *all += kind;
             }
         }
-        assert_frequent(all, [10, 10, 50, 0]);
+        assert_frequent(all, [10, 10, 50, 0, 0]);
     }
 }
 
@@ -124,7 +124,7 @@ fn sendings_of_another_band() {
 fn the_largest_sums() {
     let mut random = Random::new(23);
     for band in BANDS {
-        for (step, expected) in steps(band).into_iter().zip([[0, 0, 0, 1], [0; 4]]) {
+        for (step, expected) in steps(band).into_iter().zip([[0, 0, 0, 1, 0], [0; 5]]) {
             for phase in (0..1_920).step_by(15) {
                 let square = |place: usize| {
                     let sample = sines().s(phase + place * step);
@@ -137,7 +137,7 @@ fn the_largest_sums() {
         }
         for sample in [8_191, -8_191] {
             let kinds = read(&mut random, band, &[sample; 1_000], 100);
-            assert_eq!(kinds, [0; 4], "always {sample}");
+            assert_eq!(kinds, [0; 5], "always {sample}");
         }
     }
 }

@@ -149,7 +149,7 @@ fn every_run_of_every_wait() {
             }
         }
     }
-    assert_frequent(met.kinds, [1_000, 1_000, 1_000, 1_000]);
+    assert_frequent(met.kinds, [1_000; 5]);
     met.assert_searching_runs(100);
     met.assert_waiting_runs(100);
     met.assert_waits(10);
@@ -282,7 +282,7 @@ fn a_gap_at_every_place_of_a_wait() {
                 }
             }
         }
-        assert_frequent(met.kinds, [500; 4]);
+        assert_frequent(met.kinds, [500; 5]);
         met.assert_searching_runs(50);
         met.assert_waiting_runs(50);
     }

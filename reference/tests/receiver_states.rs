@@ -1,7 +1,7 @@
 //! Blocks read on from any state in range.
 
 use crate::common::receiver::{
-    compare_accepted, BREAK, CARRIER_LOST, EVENTS, FRESH, NO_STOP_BIT, WINDOW,
+    compare_accepted, BREAK, CARRIER_LOST, DOUBT, EVENTS, FRESH, NO_STOP_BIT, WINDOW,
 };
 use crate::common::states::{any_samples, byte_limit, good_state, longest_wait, window_of};
 use crate::common::BANDS;
@@ -49,6 +49,7 @@ fn every_slot_and_wait() {
     assert!(seen[usize::from(NO_STOP_BIT)] >= 100);
     assert!(seen[usize::from(CARRIER_LOST)] >= 1_000);
     assert!(seen[usize::from(BREAK)] >= 100);
+    assert!(seen[usize::from(DOUBT)] >= 1_000);
     assert!(seen[..256].iter().filter(|&&count| count > 0).count() >= 30);
 }
 
@@ -114,6 +115,7 @@ fn random_states() {
     assert!(seen[usize::from(NO_STOP_BIT)] >= 300);
     assert!(seen[usize::from(CARRIER_LOST)] >= 300);
     assert!(seen[usize::from(BREAK)] >= 10);
+    assert!(seen[usize::from(DOUBT)] >= 300);
     assert!(seen[..256].iter().filter(|&&count| count > 0).count() >= 200);
 }
 

@@ -16,7 +16,7 @@ use reference::random::Random;
 fn line(random: &mut Random, pair: [u8; 2], late: usize) -> Vec<i16> {
     let [first, second] = pair.map(|band| {
         let character = sending(band, &[0x40 + band]);
-        let lost = &sending(band, &[0x35])[..300];
+        let lost = &sending(band, &[0x35])[..290];
         // A jump of phase can be taken for a start bit, so silence is between them.
         let [character, lost] = [&character, lost].map(|line| surrounded(line, 0, 100));
         let no_stop_bit = keyed(band, &no_stop_bit(&[0x5a]));

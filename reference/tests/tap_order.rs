@@ -1,8 +1,11 @@
 //! The order of a tap's events: that of the samples, and of one sample the lower band
 //! before the other.
 
+use crate::common::doubtful::tie;
 use crate::common::indexed::compare_accepted as located;
-use crate::common::receiver::{compare_accepted, fresh, BREAK, CARRIER_LOST, NO_STOP_BIT, WINDOW};
+use crate::common::receiver::{
+    compare_accepted, fresh, BREAK, CARRIER_LOST, DOUBT, NO_STOP_BIT, WINDOW,
+};
 use crate::common::recording::{keyed, mixed, sending};
 use crate::common::states::{byte_limit, window_of};
 use crate::common::tap::{any_line, good_tap_of, of_tap, open, tapped, PAIRS};
@@ -84,15 +87,17 @@ fn two_characters() {
     }
 }
 
-/// A receiver that tells an event with the next sample: a character, no stop bit, a
-/// lost carrier or a break.
+/// A receiver that tells an event with the next sample, which is 0: a character, no stop
+/// bit, a lost carrier, a break or a doubt.
 fn about_to_tell(band: u8, byte: u8, kind: usize) -> (Numbers, u16) {
     let [space, mark] = [0, 1].map(|bit| window_of(band, bit, 1));
+    let both = tie(band).window;
     let (window, byte, event) = match kind {
         0 => (mark, byte, u16::from(byte)),
         1 => (space, byte.max(1), NO_STOP_BIT),
         2 => ([0; WINDOW], byte, CARRIER_LOST),
-        _ => (space, 0, BREAK),
+        3 => (space, 0, BREAK),
+        _ => (both, byte, DOUBT),
     };
     (waiting(band, window, [1, 9, byte]), event)
 }
@@ -113,8 +118,8 @@ fn two_events(pair: [u8; 2], kinds: [usize; 2]) {
 #[test]
 fn two_events_of_every_kind() {
     for pair in PAIRS {
-        for first in 0..4 {
-            for second in 0..4 {
+        for first in 0..5 {
+            for second in 0..5 {
                 two_events(pair, [first, second]);
             }
         }

@@ -140,7 +140,7 @@ fn bands_of_the_other_pair() {
             }
         }
         for kinds in kinds_of(pair, &events) {
-            assert_frequent(kinds, [40, 20, 100, 0]);
+            assert_frequent(kinds, [5, 20, 100, 0, 30]);
         }
     }
 }
@@ -213,7 +213,7 @@ fn breaks_in_both_bands() {
             events.extend(read_both(&mut random, pair, both));
         }
         for kinds in kinds_of(pair, &events) {
-            assert_frequent(kinds, [200, 0, 0, 100]);
+            assert_frequent(kinds, [200, 0, 0, 100, 0]);
         }
     }
 }
@@ -225,7 +225,7 @@ fn noise_of_full_range() {
         let line = noise(&mut random, 8_191, 300_000);
         let events = read(&mut random, pair, &line, 500);
         for kinds in kinds_of(pair, &events) {
-            assert_frequent(kinds, [0, 0, 200, 0]);
+            assert_frequent(kinds, [0, 0, 200, 0, 5]);
         }
     }
 }
@@ -243,7 +243,7 @@ fn any_lines() {
             }
         }
         for kinds in kinds_of(pair, &events) {
-            assert_frequent(kinds, [50, 50, 300, 50]);
+            assert_frequent(kinds, [50, 50, 300, 50, 100]);
         }
     }
 }

@@ -23,7 +23,7 @@ fn random_states() {
             met.extend(events);
         }
         for kinds in kinds_of(pair, &met) {
-            assert_frequent(kinds, [100, 100, 100, 5]);
+            assert_frequent(kinds, [100, 100, 100, 3, 100]);
         }
     }
 }

@@ -1,10 +1,10 @@
 -- A break on the line: where the control stands before the window with t of its samples is read, and that each window keeps it there. It
 -- begins as the character 0 does; its stop slot is taken in space.
 -- Assumes nothing.
-use mathlib.Core.Path.{_≡_, refl, sym, _∙_}
+use mathlib.Core.Path.{_≡_, refl, sym, ap, _∙_}
 use mathlib.Core.Bool.{Bool, true, false, false≢true}
 use mathlib.Core.List.{List, _∷_}
-use Prim.Native.Nat.{ℕ, zero, suc, _+_, _*_, _≤_, _<_}
+use Prim.Native.Nat.{ℕ, zero, suc, _+_, _-_, _*_, _^_, _≤_, _<_}
 use native.Mathlib.Decide.{ℕ-discrete}
 use native.Mathlib.Omega.{arith}
 use Rattle.integers.proofs.Tests.{lt-or-le}
@@ -12,8 +12,8 @@ use Rattle.control.specs.declared.Decision.{Decision}
 use Rattle.control.specs.declared.Stage.the-variants.{Searching, Waiting, Held}
 use Rattle.control.specs.declared.Control.{Control}
 use Rattle.control.specs.Rules.{breakBegun, quiet, holdBreak}
-use Rattle.control.proofs.Rules.{wait-taken, start-found, start-mark, data-bit, stop-break, held-on, held-ends}
-use Rattle.promise.proofs.Steps.{at, Reads, Invariant, Moves, Keeps, moves-on, full, goes, waits, searches, finds}
+use Rattle.control.proofs.Rules.{wait-taken, start-found, start-mark, data-read, stop-break, held-on, held-ends}
+use Rattle.promise.proofs.Steps.{at, Reads, Clear, Invariant, Moves, Keeps, moves-on, full, goes, waits, searches, finds}
 use Rattle.promise.proofs.Windows.{ReadAcross}
 use Rattle.promise.proofs.Characters.{BetweenCharacters, none-due, seeks-start}
 
@@ -27,10 +27,10 @@ releases : {P : Invariant} (d : Decision) → Reads d 1 → {X : List ℕ} → P
 releases d r {X} p = goes d (r .good) Held (quiet Searching) X (held-ends 32 d (rw (r .space))) p
 
 -- space at the stop slot, with the byte 0
-begins : {P : Invariant} (d : Decision) → Reads d 0 → {X : List ℕ} → P (at 32 Held) X → Moves P (at 32 (Waiting 1 9 0)) d (breakBegun ∷ X)
+begins : {P : Invariant} (d : Decision) → Clear d 0 → {X : List ℕ} → P (at 32 Held) X → Moves P (at 32 (Waiting 1 9 0)) d (breakBegun ∷ X)
 begins d r {X} p =
     goes d (r .good) (Waiting 1 9 0) holdBreak X
-    (wait-taken 32 d 1 9 0 refl ∙ stop-break 0 d 9 (λ z. omega arith) (r .good) (omega arith) (r .space) refl) p
+    (wait-taken 32 d 1 9 0 refl ∙ stop-break 0 d 9 (λ z. omega arith) (r .good) (omega arith) (r .weighed) refl) p
 
 -- ---- behind the tenth bit
 
@@ -39,11 +39,11 @@ pub data LateBreak (Y : List ℕ) (k : ℕ) : Control → List ℕ → Type 0 wh
   held : LateBreak Y k (at 32 Held) Y
   break-due : (wait : ℕ) → 1 ≤ wait → wait + k ≤ 4 → LateBreak Y k (at 32 (Waiting wait 9 0)) (breakBegun ∷ Y)
 
-pub stays-late : (Y : List ℕ) (k : ℕ) (d : Decision) → Reads d 0 → Keeps (LateBreak Y k) d (LateBreak Y (suc k))
-stays-late Y k d r s X held = holds d r held
-stays-late Y k d r s X (break-due zero a b) = absurd (omega arith)
-stays-late Y k d r s X (break-due (suc zero) a b) = begins d r held
-stays-late Y k d r s X (break-due (suc (suc wait)) a b) =
+pub stays-late : (Y : List ℕ) (k : ℕ) (d : Decision) → Reads d 0 → (k ≤ 3 → Clear d 0) → Keeps (LateBreak Y k) d (LateBreak Y (suc k))
+stays-late Y k d r clear s X held = holds d r held
+stays-late Y k d r clear s X (break-due zero a b) = absurd (omega arith)
+stays-late Y k d r clear s X (break-due (suc zero) a b) = begins d (clear (omega arith)) held
+stays-late Y k d r clear s X (break-due (suc (suc wait)) a b) =
     waits d 32 (full d (r .good)) wait 9 0 (break-due (suc wait) (omega arith) (omega arith))
 
 -- behind that bit
@@ -53,11 +53,13 @@ late-over (break-due wait a b) = absurd (omega arith)
 
 -- ---- the first ten bits
 
--- in the window with t samples of them the mark before is read, and then space
+-- in the window with t samples of them the mark before is read, and then space, without doubt up to 3 samples and where slot m falls
 pub record SpaceAt (t : ℕ) (d : Decision) : Type 0 where
   pub good : d .good ≡ true
   pub mark-before : t ≤ 14 → Reads d 1
+  pub mark-clear : t ≤ 3 → Clear d 1
   pub space : 19 ≤ t → Reads d 0
+  pub space-clear : (m : ℕ) → 31 + 32 * m ≤ t → t ≤ 35 + 32 * m → Clear d 0
 
 pub data FirstBits (Y : List ℕ) (t : ℕ) : Control → List ℕ → Type 0 where
   -- the start is not yet found
@@ -74,7 +76,7 @@ module _ (Y : List ℕ) (t : ℕ) (d : Decision) (h : SpaceAt t d) where
 
   step-before : t ≤ 19 → Keeps (BetweenCharacters (breakBegun ∷ Y) t) d Next
   step-before l =
-      seeks-start (breakBegun ∷ Y) t d (h .good) (h .mark-before) (h .space) (λ q s X r. before (omega arith) r)
+      seeks-start (breakBegun ∷ Y) t d (h .good) (h .mark-before) (h .mark-clear) (h .space) (λ q s X r. before (omega arith) r)
       (λ p. reading 16 0 (omega arith) (omega arith) (omega arith) (omega arith)) l
 
   -- slot m is taken at this window
@@ -84,11 +86,13 @@ module _ (Y : List ℕ) (t : ℕ) (d : Decision) (h : SpaceAt t d) where
       goes d (h .good) (Waiting 1 0 0) (quiet (Waiting 32 1 0)) (breakBegun ∷ Y)
       (wait-taken 32 d 1 0 0 refl ∙ start-found 0 d 0 refl (r .good) (r .space))
       (reading 32 1 (omega arith) (omega arith) (omega arith) (omega arith))
-  step-slot (suc i) n a b (yes e) = rw e (begins d (h .space (omega arith)) (begun (omega arith)))
+  step-slot (suc i) n a b (yes e) = rw e (begins d (h .space-clear (suc i) (omega arith) (omega arith)) (begun (omega arith)))
   step-slot (suc i) n a b (no e) =
-      let r : Reads d 0 = h .space (omega arith) in
+      let r : Clear d 0 = h .space-clear (suc i) (omega arith) (omega arith) in
+      let zeros : 0 + 2 ^ (suc i - 1) * 0 ≡ 0 = omega arith in
       goes d (h .good) (Waiting 1 (suc i) 0) (quiet (Waiting 32 (suc i + 1) 0)) (breakBegun ∷ Y)
-      (wait-taken 32 d 1 (suc i) 0 refl ∙ data-bit 0 d (suc i) (λ z. omega arith) (h .good) (omega arith) ∙ rw (r .space))
+      (wait-taken 32 d 1 (suc i) 0 refl ∙ data-read 0 d (suc i) (λ z. omega arith) 0 (omega arith) (h .good) (omega arith) (r .weighed)
+      ∙ ap (λ (n : ℕ). quiet (Waiting 32 (suc i + 1) n)) zeros)
       (reading 32 (suc i + 1) (omega arith) (omega arith) (omega arith) (omega arith))
 
   step : t < 320 → Keeps (FirstBits Y t) d Next
@@ -105,8 +109,22 @@ bitBefore zero = 1
 bitBefore (suc j) = 0
 
 space-at : (j k : ℕ) (d : Decision) → ReadAcross (bitBefore j) 0 k d → SpaceAt (32 * j + k) d
-space-at zero k d r = record { good = r .good; mark-before = λ a. r .earlier (omega arith); space = λ a. r .later (omega arith) }
-space-at (suc j) k d r = record { good = r .good; mark-before = λ a. absurd (omega arith); space = λ a. r .steady refl }
+space-at zero k d r =
+    record {
+      good = r .good;
+      mark-before = λ a. r .earlier (omega arith);
+      mark-clear = λ a. r .earlier-clear (omega arith);
+      space = λ a. r .later (omega arith);
+      space-clear = λ m a b. r .later-clear (omega arith);
+    }
+space-at (suc j) k d r =
+    record {
+      good = r .good;
+      mark-before = λ a. absurd (omega arith);
+      mark-clear = λ a. absurd (omega arith);
+      space = λ a. r .steady refl;
+      space-clear = λ m a b. lt-or-le k 4 (λ q. r .earlier-clear (omega arith)) (λ q. r .later-clear (omega arith));
+    }
 
 pub first-bits-step : (Y : List ℕ) (j k : ℕ) → j < 10 → k < 32 → (d : Decision) → ReadAcross (bitBefore j) 0 k d
     → Keeps (FirstBits Y (32 * j + k)) d (FirstBits Y (32 * j + suc k))
@@ -153,7 +171,7 @@ module _ (Y : List ℕ) (k : ℕ) (h : k < 32) (d : Decision) (r : ReadAcross 0 
 
   pub first-mark-step : Keeps (FirstMark Y k) d AfterMark
   first-mark-step s X (late a l) =
-      lt-or-le k 15 (λ q. moves-on (λ s X l. late (omega arith) l) (stays-late Y k d (r .earlier (omega arith)) s X l)) (λ q. from-late q s X l)
+      lt-or-le k 15 (λ q. moves-on (λ s X l. late (omega arith) l) (stays-late Y k d (r .earlier (omega arith)) (r .earlier-clear) s X l)) (λ q. from-late q s X l)
   first-mark-step s X (over a) = from-over a (d .space) refl
   first-mark-step s X (false-start zero a b) = absurd (omega arith)
   first-mark-step s X (false-start (suc zero) a b) = absurd (omega arith)

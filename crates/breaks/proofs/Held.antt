@@ -157,6 +157,6 @@ module _ (band : ℕ) (known : isBand band ≡ true) where
             record {
               stop = refl;
               good = M .carrier 0 (M .first-bit) 0 0 1 (omega arith) (entered (state .window) sample) near;
-              space = M .steady 0 (M .first-bit) 0 1 (omega arith) (entered (state .window) sample) near;
+              space = M .earlier-clear 0 (M .first-bit) 0 0 1 (omega arith) (entered (state .window) sample) near;
             };
       }

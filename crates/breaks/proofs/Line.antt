@@ -61,7 +61,7 @@ module _ {noise : ℕ} (t : Tones) (M : Margins noise t) (m : ℕ) where
     from-more : (n p : ℕ) → M .Begins p → ReadFrom t M m (LateBreak Y 0) (sending t M m p 0 (replicate n 0 ++ (idleBits ++ bits)))
     from-more zero p begins = from-marks p begins
     from-more (suc n) p begins =
-        through-bit t M p begins 0 0 (replicate n 0 ++ (idleBits ++ bits)) m (LateBreak Y) (λ k h d r. stays-late Y k d (r .steady refl))
+        through-bit t M p begins 0 0 (replicate n 0 ++ (idleBits ++ bits)) m (LateBreak Y) (λ k h d r. stays-late Y k d (r .steady refl) (r .earlier-clear))
         (λ s X w. from-more n (phaseAfterBit t p 0) (M .next-bit p begins 0) s X (late-over w))
 
     -- from bit j on, with i of the first ten to come

@@ -8,6 +8,7 @@ use mathlib.Core.Logic.{_↔_}
 use Prim.Native.Nat.{ℕ}
 use lib.IntN.{ℤ}
 use Rattle.calls.specs.Lists as lists
+use Rattle.control.specs.declared.Bit.the-variants.{Space}
 use Rattle.control.specs.declared.Stage.the-variants.{Waiting, Held}
 use Rattle.control.specs.Rules.{breakBegun, runAfter, endsBreak}
 use Rattle.receiver.specs.declared.Receiver.{Receiver}
@@ -17,11 +18,11 @@ use Rattle.receiver.specs.Lists.{Call, callOf, samplesRead, eventsRead}
 
 -- ---- samples
 
--- the sample x begins a break: it is that of the stop slot, the byte is 0, the level is good, and space is above mark
+-- the sample x begins a break: it is that of the stop slot, the byte is 0, the level is good, and the bit is space
 pub record BeginsBreak (s : Receiver) (x : ℤ) : Type 0 where
   pub stop : s .stage ≡ Waiting 1 9 0
   pub good : decisionAt s x .good ≡ true
-  pub space : decisionAt s x .space ≡ true
+  pub space : decisionAt s x .bit ≡ Space
 
 -- a state in its ranges tells 258 with x exactly if x begins a break
 abbrev pub ToldExactly : Receiver → ℤ → Type 0

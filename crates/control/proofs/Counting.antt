@@ -2,11 +2,11 @@
 -- starts again at none: two events are at least 49 decisions apart.
 -- Assumes nothing.
 use mathlib.Core.Path.{_≡_}
-use mathlib.Core.Bool.{true, not, cond, _&&_}
-use Prim.Native.Nat.{ℕ, _+_, _-_, _*_, _<_, _≤_}
+use mathlib.Core.Bool.{true, cond, _&&_}
+use Prim.Native.Nat.{ℕ, _+_, _-_, _*_, _<_, _≤_, zero-le}
 use native.Mathlib.Omega.{arith}
-use borrow.Author.Tests.{ne-eqb, eqb-true, eqb-false}
-use lib.Dec.{leb, eqb}
+use borrow.Author.Tests.{eq-eqb, ne-eqb, eqb-true, eqb-false}
+use lib.Dec.{eqb}
 use lib.ListN.{length}
 use Rattle.integers.proofs.Tests.{cond-case, cond-split, cond-both}
 use Rattle.control.specs.declared.Decision.{Decision}
@@ -16,6 +16,7 @@ use Rattle.control.specs.declared.Stage.the-variants.{Searching, Waiting
 use Rattle.control.specs.declared.Control.{Control}
 use Rattle.control.specs.Ranges.{isStage}
 use Rattle.control.specs.Rules.{numbers, runAfter, endsBreak, taken, nextOf, movedBy, controlAfter, reported}
+use Rattle.control.proofs.Rules.{taken-case}
 use Rattle.control.proofs.Ranges.{wait-low, stage-wait}
 
 -- 49 less the samples that are still to come before there can be an event
@@ -29,13 +30,22 @@ abbrev Slow : ℕ → Next → Type 0
 Slow p n = 49 * length (numbers (n .event)) + elapsed (n .stage) ≤ p + 1
 
 taken-slow : (wait slot byte : ℕ) (d : Decision) → wait ≤ 1 → Slow (cond (eqb slot 0) (17 - wait) (49 - wait)) (taken slot byte d)
-unfolding taken
 taken-slow wait slot byte d h =
-    cond-both Slow (eqb slot 0)
-    (λ e. cond-case (Slow (17 - wait)) (d .good && d .space) _ _ (omega arith) (omega arith))
-    (λ e. cond-case (Slow (49 - wait)) (leb slot 8) _ _
-    (cond-case (Slow (49 - wait)) (not (d .good)) _ _ (omega arith) (rw (ne-eqb (slot + 1) 0 (λ e. omega arith)) (omega arith)))
-    (cond-case (Slow (49 - wait)) (not (d .good)) _ _ (omega arith) (cond-case (Slow (49 - wait)) (d .space) _ _ (cond-case (Slow (49 - wait)) (eqb byte 0) _ _ (omega arith) (omega arith)) (omega arith))))
+    taken-case (Slow (cond (eqb slot 0) (17 - wait) (49 - wait))) slot byte d
+    (record {
+      start = λ z. rw (eq-eqb slot 0 z) (omega arith);
+      no-start = λ z. zero-le;
+      level-lost = slow-event;
+      bit = λ nz l bit b. rw (ne-eqb slot 0 nz, ne-eqb (slot + 1) 0 (λ e. omega arith)) (omega arith);
+      doubt = λ nz g e. slow-event nz;
+      break = λ l g e z. slow-event (λ z. omega arith);
+      no-stop = λ l. slow-event (λ z. omega arith);
+      character = λ l. slow-event (λ z. omega arith);
+    })
+  where
+    -- an event behind which nothing has elapsed
+    slow-event : (slot ≡ 0 → ⊥) → 49 ≤ cond (eqb slot 0) (17 - wait) (49 - wait) + 1
+    slow-event nz = rw (ne-eqb slot 0 nz) (omega arith)
 
 next-slow : (stage : Stage) (run : ℕ) (d : Decision) → Slow (elapsed stage) (nextOf stage run d)
 unfolding nextOf

@@ -1,10 +1,10 @@
 -- What the range tests of run and stage say, and that the rules keep the ranges.
 -- Assumes nothing.
 use mathlib.Core.Path.{_≡_, refl, ap, _∙_}
-use mathlib.Core.Bool.{Bool, true, not, cond, _&&_}
+use mathlib.Core.Bool.{Bool, true, cond, _&&_}
 use mathlib.Core.List.{List, [], _∷_}
 use mathlib.Mathlib.Data.Bool.Basic.{and-elim-left, and-elim-right, and-intro}
-use Prim.Native.Nat.{ℕ, suc, _+_, _-_, _*_, _^_, _<_, _≤_, min}
+use Prim.Native.Nat.{ℕ, zero, suc, _+_, _-_, _*_, _^_, _<_, _≤_, min}
 use native.Mathlib.Omega.{arith}
 use borrow.Author.Tests.{lt-ltb, le-ltb, le-leb, ne-eqb, ltb-true, leb-true, eqb-true, eqb-false}
 use lib.Dec.{ltb, leb, eqb}
@@ -17,7 +17,8 @@ use Rattle.control.specs.declared.Stage.{Stage}
 use Rattle.control.specs.declared.Stage.the-variants.{Searching, Waiting, Held}
 use Rattle.control.specs.declared.Control.{Control}
 use Rattle.control.specs.Ranges.{isWait, isSlot, isStage, isControl}
-use Rattle.control.specs.Rules.{runAfter, endsBreak, gathered, taken, nextOf, movedBy, controlAfter, follow}
+use Rattle.control.specs.Rules.{runAfter, endsBreak, taken, nextOf, movedBy, controlAfter, follow}
+use Rattle.control.proofs.Rules.{taken-case}
 
 -- ---- waits
 
@@ -62,16 +63,21 @@ pub weight-most : (slot : ℕ) → slot ≤ 8 → 2 ^ (slot - 1) ≤ 128
 weight-most slot h = pow-mono {i = slot - 1} {j = 7} (omega arith)
 
 -- the next slot, with the bit gathered
-slot-next : (slot byte : ℕ) (space : Bool) → (slot ≡ 0 → ⊥) → slot ≤ 8 → byte < 2 ^ (slot - 1) → isSlot (slot + 1) (gathered slot byte space) ≡ true
+slot-next : (slot byte bit : ℕ) → (slot ≡ 0 → ⊥) → slot ≤ 8 → bit < 2 → byte < 2 ^ (slot - 1) → isSlot (slot + 1) (byte + 2 ^ (slot - 1) * bit) ≡ true
 unfolding isSlot
-slot-next slot byte space nz h l =
-    and-intro (le-leb (slot + 1) 9 (omega arith)) (rw (le-ltb (slot + 1) 2 (omega arith)) (lt-ltb (gathered slot byte space) (2 ^ (slot + 1 - 1)) below))
+slot-next slot byte bit nz h l b =
+    and-intro (le-leb (slot + 1) 9 (omega arith)) (rw (le-ltb (slot + 1) 2 (omega arith)) (lt-ltb (byte + 2 ^ (slot - 1) * bit) (2 ^ (slot + 1 - 1)) below))
   where
     doubled : 2 ^ (slot + 1 - 1) ≡ 2 * 2 ^ (slot - 1)
     doubled = let e : slot + 1 - 1 ≡ suc (slot - 1) = omega arith in ap (λ (n : ℕ). 2 ^ n) e ∙ omega arith
 
-    below : gathered slot byte space < 2 ^ (slot + 1 - 1)
-    below = rw doubled (cond-case (λ (n : ℕ). n < 2 * 2 ^ (slot - 1)) space byte (byte + 2 ^ (slot - 1)) (omega arith) (omega arith))
+    one-bit : (bit : ℕ) → bit < 2 → byte + 2 ^ (slot - 1) * bit < 2 * 2 ^ (slot - 1)
+    one-bit zero l = omega arith
+    one-bit (suc zero) l = omega arith
+    one-bit (suc (suc bit)) l = absurd (omega arith)
+
+    below : byte + 2 ^ (slot - 1) * bit < 2 ^ (slot + 1 - 1)
+    below = rw doubled (one-bit bit l)
 
 -- ---- stages
 
@@ -88,16 +94,19 @@ abbrev Kept : Next → Type 0
 Kept n = isStage (n .stage) ≡ true
 
 taken-kept : (slot byte : ℕ) (d : Decision) → isSlot slot byte ≡ true → Kept (taken slot byte d)
-unfolding taken isStage isSlot
+unfolding isStage isSlot
 taken-kept slot byte d h =
-    cond-split Kept (eqb slot 0) _ _
-    (λ z. cond-case Kept (d .good && d .space) _ _ refl refl)
-    (λ z.
-    let nz : slot ≡ 0 → ⊥ = eqb-false slot 0 z in
-    cond-split Kept (leb slot 8) _ _
-    (λ l. cond-case Kept (not (d .good)) _ _ refl
-    (and-intro (wait-32 slot) (slot-next slot byte (d .space) nz (leb-true slot 8 l) (slot-below slot byte nz h))))
-    (λ l. cond-case Kept (not (d .good)) _ _ refl (cond-case Kept (d .space) _ _ (cond-case Kept (eqb byte 0) _ _ refl refl) refl)))
+    taken-case Kept slot byte d
+    (record {
+      start = λ z. refl;
+      no-start = λ z. refl;
+      level-lost = λ nz. refl;
+      bit = λ nz l bit b. and-intro (wait-32 slot) (slot-next slot byte bit nz l b (slot-below slot byte nz h));
+      doubt = λ nz g e. refl;
+      break = λ l g e z. refl;
+      no-stop = λ l. refl;
+      character = λ l. refl;
+    })
 
 next-kept : (stage : Stage) (run : ℕ) (d : Decision) → isStage stage ≡ true → Kept (nextOf stage run d)
 unfolding nextOf isStage isSlot

@@ -1,12 +1,14 @@
 -- The cases of the rules, each an equation under the tests that lead to it.
 -- Assumes nothing.
-use mathlib.Core.Path.{_≡_, refl, _∙_}
-use mathlib.Core.Bool.{Bool, true, false, cond, not, and-false, Bool·beq}
-use Prim.Native.Nat.{ℕ, _+_, _-_, _<_, _≤_}
+use mathlib.Core.Path.{_≡_, refl, ap, _∙_}
+use mathlib.Core.Bool.{Bool, true, false, cond, not, _&&_, and-false, Bool·beq}
+use Prim.Native.Nat.{ℕ, zero, suc, _-_, _<_, _≤_}
 use native.Mathlib.Omega.{arith}
-use borrow.Author.Tests.{le-leb, lt-leb, eq-eqb, ne-eqb}
+use borrow.Author.Tests.{le-leb, lt-leb, eq-eqb, ne-eqb, leb-true, leb-false, eqb-true, eqb-false, not-false}
 use lib.Dec.{leb, eqb}
-use Rattle.integers.proofs.Tests.{cond-case}
+use Rattle.integers.proofs.Tests.{cond-case, cond-split}
+use Rattle.control.specs.declared.Bit.{Bit}
+use Rattle.control.specs.declared.Bit.the-variants.{Mark, Space, Doubtful}
 use Rattle.control.specs.declared.Decision.{Decision}
 use Rattle.control.specs.declared.Asked.{Asked}
 use Rattle.control.specs.declared.Asked.the-variants.{Tone, Slot}
@@ -15,7 +17,7 @@ use Rattle.control.specs.declared.Stage.{Stage}
 use Rattle.control.specs.declared.Stage.the-variants.{Searching, Waiting, Held}
 use Rattle.control.specs.declared.Control.{Control}
 use Rattle.control.specs.Ranges.{isSlot}
-use Rattle.control.specs.Rules.{carrierLost, noStop, numbers, quiet, report, holdBreak, endsBreak, runAfter, gathered, taken, nextOf, movedBy, controlAfter, reported}
+use Rattle.control.specs.Rules.{noStop, carrierLost, bitDoubtful, numbers, quiet, report, holdBreak, endsBreak, runAfter, bitOf, gathered, bitTaken, taken, nextOf, movedBy, controlAfter, reported}
 use Rattle.control.specs.AsCoded.{isFound, askedBy, waitOver}
 
 -- ---- the run
@@ -42,23 +44,59 @@ module _ (byte : ℕ) (d : Decision) where
   module _ (slot : ℕ) (nz : slot ≡ 0 → ⊥) where
     pub lost : d .good ≡ false → taken slot byte d ≡ report carrierLost
     unfolding taken
-    lost g = simp (ne-eqb slot 0 nz, g) (cond-case (λ (n : Next). n ≡ report carrierLost) (leb slot 8) _ _ refl refl)
+    lost g = simp (ne-eqb slot 0 nz, g)
 
-    pub data-bit : d .good ≡ true → slot ≤ 8 → taken slot byte d ≡ quiet (Waiting 32 (slot + 1) (gathered slot byte (d .space)))
+    pub bit-taken : d .good ≡ true → taken slot byte d ≡ bitTaken slot byte (d .bit)
     unfolding taken
-    data-bit g h = simp (ne-eqb slot 0 nz, g, le-leb slot 8 h)
+    bit-taken g = simp (ne-eqb slot 0 nz, g)
 
-    pub stop-space : d .good ≡ true → 8 < slot → d .space ≡ true → (byte ≡ 0 → ⊥) → taken slot byte d ≡ report noStop
-    unfolding taken
-    stop-space g h s b = simp (ne-eqb slot 0 nz, g, lt-leb slot 8 h, s, ne-eqb byte 0 b)
+    -- by the bit
+    pub data-read : (bit : ℕ) → bit < 2 → d .good ≡ true → slot ≤ 8 → d .bit ≡ bitOf bit → taken slot byte d ≡ gathered slot byte bit
+    data-read bit l g h e = bit-taken g ∙ ap (bitTaken slot byte) e ∙ of-number bit l
+      where
+        of-number : (bit : ℕ) → bit < 2 → bitTaken slot byte (bitOf bit) ≡ gathered slot byte bit
+        of-number zero l = rw (le-leb slot 8 h)
+        of-number (suc zero) l = rw (le-leb slot 8 h)
+        of-number (suc (suc bit)) l = absurd (omega arith)
 
-    pub stop-break : d .good ≡ true → 8 < slot → d .space ≡ true → byte ≡ 0 → taken slot byte d ≡ holdBreak
-    unfolding taken
-    stop-break g h s b = simp (ne-eqb slot 0 nz, g, lt-leb slot 8 h, s, eq-eqb byte 0 b)
+    pub stop-break : d .good ≡ true → 8 < slot → d .bit ≡ Space → byte ≡ 0 → taken slot byte d ≡ holdBreak
+    stop-break g h e b = bit-taken g ∙ simp (e, lt-leb slot 8 h, eq-eqb byte 0 b)
 
-    pub stop-mark : d .good ≡ true → 8 < slot → d .space ≡ false → taken slot byte d ≡ report byte
-    unfolding taken
-    stop-mark g h s = simp (ne-eqb slot 0 nz, g, lt-leb slot 8 h, s)
+    pub stop-mark : d .good ≡ true → 8 < slot → d .bit ≡ Mark → taken slot byte d ≡ report byte
+    stop-mark g h e = bit-taken g ∙ simp (e, lt-leb slot 8 h)
+
+    pub doubt-taken : d .good ≡ true → d .bit ≡ Doubtful → taken slot byte d ≡ report bitDoubtful
+    doubt-taken g e = bit-taken g ∙ rw e
+
+-- What holds in every case of a slot that is taken holds of what it comes to.
+pub record Cases (P : Next → Type 0) (slot byte : ℕ) (d : Decision) : Type 0 where
+  pub start : slot ≡ 0 → P (quiet (Waiting 32 1 0))
+  pub no-start : slot ≡ 0 → P (quiet Searching)
+  pub level-lost : (slot ≡ 0 → ⊥) → P (report carrierLost)
+  pub bit : (slot ≡ 0 → ⊥) → slot ≤ 8 → (bit : ℕ) → bit < 2 → P (gathered slot byte bit)
+  pub doubt : (slot ≡ 0 → ⊥) → d .good ≡ true → d .bit ≡ Doubtful → P (report bitDoubtful)
+  pub break : 8 < slot → d .good ≡ true → d .bit ≡ Space → byte ≡ 0 → P holdBreak
+  pub no-stop : 8 < slot → P (report noStop)
+  pub character : 8 < slot → P (report byte)
+
+module _ (P : Next → Type 0) (slot byte : ℕ) (d : Decision) (c : Cases P slot byte d) where
+  bit-case : (slot ≡ 0 → ⊥) → d .good ≡ true → (b : Bit) → d .bit ≡ b → P (bitTaken slot byte b)
+  bit-case nz g Doubtful e = c .doubt nz g e
+  bit-case nz g Mark e =
+      cond-split P (leb slot 8) _ _ (λ h. c .bit nz (leb-true slot 8 h) 1 (omega arith)) (λ h. c .character (leb-false slot 8 h))
+  bit-case nz g Space e =
+      cond-split P (leb slot 8) _ _
+      (λ h. c .bit nz (leb-true slot 8 h) 0 (omega arith))
+      (λ h. cond-split P (eqb byte 0) _ _ (λ z. c .break (leb-false slot 8 h) g e (eqb-true byte 0 z)) (λ z. c .no-stop (leb-false slot 8 h)))
+
+  pub taken-case : P (taken slot byte d)
+  unfolding taken
+  taken-case =
+      cond-split P (eqb slot 0) _ _
+      (λ z. let e : slot ≡ 0 = eqb-true slot 0 z in cond-case P (d .good && d .space) _ _ (c .start e) (c .no-start e))
+      (λ z.
+      let nz : slot ≡ 0 → ⊥ = eqb-false slot 0 z in
+      cond-split P (not (d .good)) _ _ (λ g. c .level-lost nz) (λ g. bit-case nz (not-false (d .good) g) (d .bit) refl))
 
 -- ---- the stage after a sample
 

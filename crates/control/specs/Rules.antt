@@ -1,11 +1,13 @@
 -- What a decision does to run and stage, and its event: the specification, "Reader, step by step", rules 3 to 6, as decision 17 reads
--- them, and "A held break key".
+-- them, "A held break key" and "Doubtful bits".
 -- Assumes nothing.
 use mathlib.Core.Bool.{Bool, cond, not, _&&_, _||_}
 use mathlib.Core.List.{List, [], _∷_}
-use Prim.Native.Nat.{ℕ, _+_, _-_, _^_, min}
+use Prim.Native.Nat.{ℕ, zero, suc, _+_, _-_, _*_, _^_, min}
 use lib.Dec.{ltb, leb, eqb}
 use Rattle.calls.specs.Runs.{after, gives, indexed}
+use Rattle.control.specs.declared.Bit.{Bit}
+use Rattle.control.specs.declared.Bit.the-variants.{Mark, Space, Doubtful}
 use Rattle.control.specs.declared.Decision.{Decision}
 use Rattle.control.specs.declared.Stage.{Stage}
 use Rattle.control.specs.declared.Stage.the-variants.{Searching, Waiting, Held}
@@ -17,7 +19,7 @@ use Rattle.control.specs.declared.Moved.{Moved}
 
 -- ---- events
 
--- an event below 256 is a character, 256 one without a stop bit, 257 a lost carrier, and 258 a break
+-- an event below 256 is a character, 256 one without a stop bit, 257 a lost carrier, 258 a break, and 259 a doubtful bit
 abbrev pub noStop : ℕ
 noStop = 256
 
@@ -27,9 +29,12 @@ carrierLost = 257
 abbrev pub breakBegun : ℕ
 breakBegun = 258
 
+abbrev pub bitDoubtful : ℕ
+bitDoubtful = 259
+
 -- every event is one of these (proofs/Events)
 unfoldable pub isEvent : ℕ → Bool
-isEvent n = ltb n 256 || (eqb n noStop || (eqb n carrierLost || eqb n breakBegun))
+isEvent n = ltb n 256 || (eqb n noStop || (eqb n carrierLost || (eqb n breakBegun || eqb n bitDoubtful)))
 
 -- the numbers of an event
 abbrev pub numbers : Event → List ℕ
@@ -62,26 +67,30 @@ searched run d = cond (eqb run 32 && d .space) (Waiting 16 0 0) Searching
 abbrev pub startTaken : Decision → Next
 startTaken d = cond (d .good && d .space) (quiet (Waiting 32 1 0)) (quiet Searching)
 
--- the bit is 1 exactly when mark is at least space, and 2^(slot - 1) times the bit is added
-abbrev pub gathered : ℕ → ℕ → Bool → ℕ
-gathered slot byte space = cond space byte (byte + 2 ^ (slot - 1))
+-- a bit as a number: 0 is space, and 1 mark
+abbrev pub bitOf : ℕ → Bit
+bitOf zero = Space
+bitOf (suc bit) = Mark
 
--- data: level not good gives 257 and search; otherwise the bit is gathered, and it waits 32 for the next slot
-abbrev pub dataTaken : ℕ → ℕ → Decision → Next
-dataTaken slot byte d =
-    cond (not (d .good)) (report carrierLost) (quiet (Waiting 32 (slot + 1) (gathered slot byte (d .space))))
+-- data: 2^(slot - 1) times the bit is added to the byte, and it waits 32 for the next slot
+abbrev pub gathered : ℕ → ℕ → ℕ → Next
+gathered slot byte bit = quiet (Waiting 32 (slot + 1) (byte + 2 ^ (slot - 1) * bit))
 
--- space above mark at the stop: with byte 0 it is a break, and else 256 and search
+-- stop, with space: if the byte is 0 it is a break, and else 256 and search
 abbrev pub stopMissed : ℕ → Next
 stopMissed byte = cond (eqb byte 0) holdBreak (report noStop)
 
--- stop: level not good gives 257 and search; else space above mark, see above; else the event is the byte, and search
-abbrev pub stopTaken : ℕ → Decision → Next
-stopTaken byte d = cond (not (d .good)) (report carrierLost) (cond (d .space) (stopMissed byte) (report byte))
+-- data, 1 to 8, and stop, 9, by the bit: a doubtful one gives 259 and search; a data bit is gathered; at the stop mark gives the byte, and
+-- search, and space see above
+abbrev pub bitTaken : ℕ → ℕ → Bit → Next
+bitTaken slot byte Doubtful = report bitDoubtful
+bitTaken slot byte Mark = cond (leb slot 8) (gathered slot byte 1) (report byte)
+bitTaken slot byte Space = cond (leb slot 8) (gathered slot byte 0) (stopMissed byte)
 
--- by its number: 0 the start, 1 to 8 data, 9 the stop
+-- by its number: 0 the start; data and stop: level not good gives 257 and search, and else the bit is taken
 unfoldable pub taken : ℕ → ℕ → Decision → Next
-taken slot byte d = cond (eqb slot 0) (startTaken d) (cond (leb slot 8) (dataTaken slot byte d) (stopTaken byte d))
+taken slot byte d =
+    cond (eqb slot 0) (startTaken d) (cond (not (d .good)) (report carrierLost) (bitTaken slot byte (d .bit)))
 
 -- ---- rule 6: a break is held until the run is 32 and mark is at least space; then it searches, from the next sample on
 

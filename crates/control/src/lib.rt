@@ -23,13 +23,22 @@ pub struct Control {
     pub stage: Stage,
 }
 
-// What the energies of a window decide: the level is good; space is above mark.
+// The bit of a window, as a slot takes it: mark, space, or doubtful where the two energies are too close to tell.
+pub enum Bit {
+    Mark,
+    Space,
+    Doubtful,
+}
+
+// What the energies of a window decide: the level is good; space is above mark, for a search, a start slot and a held break; the bit, for the
+// other slots.
 pub struct Decision {
     pub good: bool,
     pub space: bool,
+    pub bit: Bit,
 }
 
-// A character (0 to 255), 256 for no stop bit, 257 for a lost carrier or 258 for a break; or nothing.
+// A character (0 to 255), 256 for no stop bit, 257 for a lost carrier, 258 for a break or 259 for a doubtful bit; or nothing.
 pub enum Event {
     Nothing,
     Number(u16),

@@ -1,10 +1,11 @@
 // A bit slot: its ranges, and what is done when it is taken.
 ghost use mathlib.Core.Path.{_≡_};
 ghost use mathlib.Core.Bool.{true};
-ghost use Prim.Native.Nat.{_-_, _^_, _≤_, _<_};
+ghost use Prim.Native.Nat.{_-_, _^_, _≤_};
 ghost use Rattle.control.specs.declared.Stage.the-variants.{Waiting};
 ghost use Rattle.control.specs.Ranges.{isWait, isSlot};
-ghost use Rattle.control.specs.Rules.{quiet, report, holdBreak, gathered, taken};
+ghost use Rattle.control.specs.Rules.{quiet, report, holdBreak, bitTaken, taken};
+use super::Bit;
 use super::Decision;
 use super::Event;
 use super::Next;
@@ -15,6 +16,7 @@ pub(crate) fn take_slot(slot: u8, byte: u8, d: Decision) -> Next
     requires { ⌜ isSlot slot byte ≡ true ⌝ }
     ensures { λ r. ⌜ r ≡ taken slot byte d ⌝ }
 {
+    let bit = d.bit;
     if slot == 0 {
         if d.good && d.space {
             waiting(1, 0)
@@ -23,23 +25,36 @@ pub(crate) fn take_slot(slot: u8, byte: u8, d: Decision) -> Next
         }
     } else if !d.good {
         reporting(257)
-    } else if slot <= 8 {
-        waiting(slot + 1, gather(slot, byte, d.space))
-    } else if !d.space {
-        reporting(byte as u16)
-    } else if byte == 0 {
-        holding()
     } else {
-        reporting(256)
+        take_bit(slot, byte, bit)
     }
 }
 
-// The byte with the bit of a data slot, the least significant first.
-fn gather(slot: u8, byte: u8, space: bool) -> u8
-    requires { ⌜ (1 ≤ slot) × (slot ≤ 8) × (byte < 2 ^ (slot - 1)) ⌝ }
-    ensures { λ r. ⌜ r ≡ gathered slot byte space ⌝ }
+// The bit of a data or stop slot. Data bits, the least significant first, are added to the byte; the stop bit brings an event.
+fn take_bit(slot: u8, byte: u8, bit: Bit) -> Next
+    requires { ⌜ 1 ≤ slot ⌝ }
+    requires { ⌜ isSlot slot byte ≡ true ⌝ }
+    ensures { λ r. ⌜ r ≡ bitTaken slot byte bit ⌝ }
 {
-    if space { byte } else { byte + weight(slot) }
+    match bit {
+        Bit::Doubtful => reporting(259),
+        Bit::Mark => {
+            if slot <= 8 {
+                waiting(slot + 1, byte + weight(slot))
+            } else {
+                reporting(byte as u16)
+            }
+        }
+        Bit::Space => {
+            if slot <= 8 {
+                waiting(slot + 1, byte)
+            } else if byte == 0 {
+                holding()
+            } else {
+                reporting(256)
+            }
+        }
+    }
 }
 
 // The weight of a data slot's bit.

@@ -2,6 +2,7 @@
 -- Assumes nothing.
 use Rattle.promise.proofs.Promise.{all-read}
 use Rattle.promise.proofs.Possible.{not-vacuous}
+use Rattle.doubts.proofs.Doubts.{doubts}
 use Rattle.tapped.proofs.Tapped.{read-on-tap, pairs-possible, taps-possible, read-with-indices}
 use Rattle.modulator.proofs.Cut as modulate
 use Rattle.demodulator.proofs.Cut as demodulate
@@ -13,6 +14,7 @@ demand-3 =
     record {
       promise = all-read;
       possible = not-vacuous;
+      never-doubtful = doubts .in-recordings;
       on-tap = read-on-tap;
       pairs-possible = pairs-possible;
       taps-possible = taps-possible;

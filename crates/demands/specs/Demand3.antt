@@ -3,9 +3,10 @@
 -- the characters are: over lists of calls, refused ones among them. Decision 15; the specification, "Whole recordings".
 -- Assumes nothing.
 use Rattle.margin.specs.Windows.{disturbance}
-use Rattle.promise.specs.Recordings.{Transmission}
+use Rattle.promise.specs.Recordings.{Transmission, events}
 use Rattle.promise.specs.ReadAsSent.{ReadAsSent}
 use Rattle.promise.specs.Possible.{NotVacuous}
+use Rattle.doubts.specs.Doubts.{NoneDoubtful}
 use Rattle.tapped.specs.Tapped.{PairsPossible, Tapped, ReadOnTap, TapsPossible, Indexed, ReadWithIndices}
 use Rattle.modulator.specs.Modulate as modulate
 use Rattle.demodulator.specs.Demodulate as demodulate
@@ -15,6 +16,8 @@ pub record Demand3 : Type 0 where
   pub promise : (a b : Transmission disturbance) → ReadAsSent a b
   -- it speaks of something: every message and every cut of it and of its recording has such calls
   pub possible : NotVacuous
+  -- and it never shows a doubtful bit
+  pub never-doubtful : (t : Transmission disturbance) → NoneDoubtful (events t)
   -- read by a tap on a pair that has the sending's band, the events of that band are the characters sent, whatever the other receiver
   -- tells; and so are the events that are read with indices
   pub on-tap : (t : Tapped disturbance) → ReadOnTap t

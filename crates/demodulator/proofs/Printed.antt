@@ -27,7 +27,7 @@ length-name [] event none = zero-le
 length-name (k ∷ ks) event (more h hs) = cond-case (λ (l : List ℕ). length l ≤ 6) (isOf k event) _ _ h (length-name ks event hs)
 
 length-kind : (event : ℕ) → length (kindOf event) ≤ 6
-length-kind event = length-name kinds event (more (omega arith) (more (omega arith) (more (omega arith) (more (omega arith) none))))
+length-kind event = length-name kinds event (more (omega arith) (more (omega arith) (more (omega arith) (more (omega arith) (more (omega arith) none)))))
 
 length-value : (event : ℕ) → length (valueOf event) ≡ 2
 length-value event = cond-case (λ (l : List ℕ). length l ≡ 2) (ltb event 256) _ _ (length-hexadecimal event) refl

@@ -1,17 +1,18 @@
 -- The table of kinds: every event that a receiver reports has its row there, and what is known of a number that has one.
 -- Assumes nothing.
 use mathlib.Core.Path.{_≡_, refl}
-use mathlib.Core.Bool.{Bool, true, _&&_, _||_, false≢true}
+use mathlib.Core.Bool.{Bool, true, _&&_, false≢true}
 use mathlib.Core.List.{List, [], _∷_}
 use mathlib.Mathlib.Data.Bool.Basic.{and-elim-left, and-elim-right}
 use Prim.Native.Nat.{ℕ, _<_, _≤_, zero-le}
 use native.Mathlib.Omega.{arith}
-use borrow.Author.Tests.{le-leb, ltb-true, leb-true, eqb-true}
-use lib.Dec.{ltb, leb, eqb}
+use borrow.Author.Tests.{le-leb, leb-true}
+use lib.Dec.{leb}
 use lib.IntN.{ℤ}
 use Rattle.integers.specs.All.{All, none, more}
 use Rattle.integers.proofs.Tests.{or-case}
-use Rattle.control.specs.Rules.{noStop, carrierLost, breakBegun, isEvent}
+use Rattle.control.specs.Rules.{isEvent}
+use Rattle.control.proofs.Events.{event-case}
 use Rattle.receiver.specs.declared.Receiver.{Receiver}
 use Rattle.receiver.specs.Step.{eventsAfter}
 use Rattle.receiver.specs.Calls.{inRange}
@@ -26,13 +27,7 @@ char-row n h = (le-leb 0 n zero-le, le-leb n 255 (omega arith))
 
 -- so an event that is new in `isEvent` needs one too
 pub event-row : (n : ℕ) → isEvent n ≡ true → hasKind n ≡ true
-unfolding isEvent
-event-row n =
-    or-case (ltb n 256) (eqb n noStop || (eqb n carrierLost || eqb n breakBegun))
-    (λ e. rw (char-row n (ltb-true n 256 e) .0, char-row n (ltb-true n 256 e) .1) refl)
-    (or-case (eqb n noStop) (eqb n carrierLost || eqb n breakBegun)
-    (λ e. rw (eqb-true n noStop e) refl)
-    (or-case (eqb n carrierLost) (eqb n breakBegun) (λ e. rw (eqb-true n carrierLost e) refl) (λ e. rw (eqb-true n breakBegun e) refl)))
+event-row = event-case (λ (n : ℕ). hasKind n ≡ true) (λ n l. rw (char-row n l .0, char-row n l .1) refl) refl refl refl refl
 
 event-rows : {ns : List ℕ} → All (λ n. isEvent n ≡ true) ns → HaveKinds ns
 event-rows none = none
@@ -54,8 +49,9 @@ has-row (k ∷ ks) n (more p ps) h =
     (λ r. p (leb-true (k .first) n (and-elim-left low high r)) (leb-true n (k .last) (and-elim-right low high r)))
     (has-row ks n ps) h
 
--- above 257 one number has a row
-pub last-row : (n : ℕ) → 257 < n → hasKind n ≡ true → n ≡ 258
+-- above 258 one number has a row
+pub last-row : (n : ℕ) → 258 < n → hasKind n ≡ true → n ≡ 259
 last-row n l =
     has-row kinds n
-    (more (λ low high. omega arith) (more (λ low high. omega arith) (more (λ low high. omega arith) (more (λ low high. omega arith) none))))
+    (more (λ low high. omega arith)
+    (more (λ low high. omega arith) (more (λ low high. omega arith) (more (λ low high. omega arith) (more (λ low high. omega arith) none)))))

@@ -20,13 +20,14 @@ pub record Kind : Type 0 where
 abbrev pub kind : ℕ → ℕ → List ℕ → Kind
 kind first last name = record { first = first; last = last; name = name }
 
--- `char` for 0 to 255, `nostop` for 256, `lost` for 257, and `break` for 258
+-- `char` for 0 to 255, `nostop` for 256, `lost` for 257, `break` for 258, and `doubt` for 259
 abbrev pub kinds : List Kind
 kinds =
     kind 0 255 (99 ∷ 104 ∷ 97 ∷ 114 ∷ [])
     ∷ kind 256 256 (110 ∷ 111 ∷ 115 ∷ 116 ∷ 111 ∷ 112 ∷ [])
     ∷ kind 257 257 (108 ∷ 111 ∷ 115 ∷ 116 ∷ [])
     ∷ kind 258 258 (98 ∷ 114 ∷ 101 ∷ 97 ∷ 107 ∷ [])
+    ∷ kind 259 259 (100 ∷ 111 ∷ 117 ∷ 98 ∷ 116 ∷ [])
     ∷ []
 
 -- a row has a number

@@ -57,7 +57,11 @@ fn put_fields(out: &mut [u8], at: usize, event: u16) -> usize
         text::put_bytes(out, at, b" lost --\n");
         return at + 9;
     }
-    text::put_bytes(out, at, b" break --\n");
+    if event == 258 {
+        text::put_bytes(out, at, b" break --\n");
+        return at + 10;
+    }
+    text::put_bytes(out, at, b" doubt --\n");
     at + 10
 }
 

@@ -5,3 +5,4 @@ pub mod Ring
 pub mod Size
 pub mod Sums
 pub mod Near
+pub mod Order

@@ -1,11 +1,11 @@
 -- What a receiver decides in a disturbed window that passed the test, and which windows have passed when a phase has. From the bounds of the
 -- energies.
 -- Assumes nothing.
-use mathlib.Core.Path.{_≡_}
-use mathlib.Core.Bool.{Bool, true, false, Bool·beq}
+use mathlib.Core.Path.{_≡_, ap, _∙_}
+use mathlib.Core.Bool.{Bool, true, false, cond, Bool·beq}
 use mathlib.Core.List.{List}
 use mathlib.Mathlib.Data.Bool.Basic.{and-elim-left, and-elim-right}
-use Prim.Native.Nat.{ℕ, zero, suc, _<_, _≤_, max}
+use Prim.Native.Nat.{ℕ, zero, suc, _*_, _<_, _≤_, max}
 use native.Mathlib.Omega.{arith}
 use borrow.Author.Tests.{ltb-true, leb-true, lt-ltb, le-ltb, le-leb, lt-leb}
 use lib.Dec.{leb, ltb, lit<}
@@ -16,11 +16,15 @@ use Rattle.integers.proofs.Tests.{passes-at, passesBelow, below-at}
 use Rattle.sine.specs.Wave.{wave}
 use Rattle.tones.specs.declared.Tones.{Tones}
 use Rattle.tones.specs.Bands.{stepOf}
-use Rattle.receiver.specs.Energy.{energyℕ, level, decisionOf}
+use Rattle.control.specs.declared.Bit.the-variants.{Mark, Space}
+use Rattle.control.specs.declared.Decision.{Decision}
+use Rattle.weighing.specs.Weighing.{level, Means}
+use Rattle.weighing.proofs.Laws.{level-ℕ, weighed-as}
+use Rattle.receiver.specs.Energy.{energyℕ, decisionOf}
 use Rattle.receiver.proofs.Energies.{decision-ℕ}
 use Rattle.margin.specs.Windows.{across, markThenSilence, isSpace}
 use Rattle.margin.proofs.Energies.{Bounds, Enclosed, bounds, energy-enclosed}
-use Rattle.margin.proofs.Test.{carrierSure, silenceSure, winsSure, readTests, readSure, Weights, weightsOf, windowSure, acrossSure, silenceBehindSure, pairSure, bitSure, phaseSure}
+use Rattle.margin.proofs.Test.{carrierSure, silenceSure, winsSure, clearSure, readTests, readSure, Weights, weightsOf, windowSure, acrossSure, silenceBehindSure, pairSure, bitSure, phaseSure}
 
 -- ---- two energies within their bounds
 
@@ -38,6 +42,13 @@ module _ {s m : Bounds} {space mark : ℕ} (h : Enclosed s space) (l : Enclosed 
   winner true e = lt-ltb mark space (omega (arith, ltb-true (m .most) (s .least) e))
   winner false e = le-ltb mark space (omega (arith, leb-true (s .most) (m .least) e))
 
+  clear : (above : Bool) → winsSure above s m ≡ true → clearSure above s m ≡ true → Means (cond above Space Mark) space mark
+  unfolding winsSure clearSure
+  clear true e f =
+      (omega (arith, ltb-true (m .most) (s .least) e), omega (arith, leb-true (5 * m .most) (4 * s .least) f))
+  clear false e f =
+      (omega (arith, leb-true (s .most) (m .least) e), omega (arith, leb-true (5 * s .most) (4 * m .least) f))
+
 -- ---- a window near the samples sent
 
 module _ (noise : ℕ) (t : Tones) where
@@ -53,13 +64,23 @@ module _ (noise : ℕ) (t : Tones) where
     unfolding weightsOf
     in-mark = energy-enclosed noise (t .mark) near
 
+    -- the level, from the two energies
+    level-decided : decisionOf t window .good ≡ leb level (max (energyℕ window (t .space)) (energyℕ window (t .mark)))
+    level-decided = ap (λ (d : Decision). d .good) (decision-ℕ t window) ∙ level-ℕ (energyℕ window (t .space)) (energyℕ window (t .mark))
+
     pub silence-decided : windowSure w silenceSure sent ≡ true → decisionOf t window .good ≡ false
     unfolding windowSure
-    silence-decided e = rw (decision-ℕ t window) (silence-level in-space in-mark e)
+    silence-decided e = level-decided ∙ silence-level in-space in-mark e
 
     pub bit-decided : (above : Bool) → windowSure w (winsSure above) sent ≡ true → decisionOf t window .space ≡ above
     unfolding windowSure
-    bit-decided above e = rw (decision-ℕ t window) (winner in-space in-mark above e)
+    bit-decided above e = ap (λ (d : Decision). d .space) (decision-ℕ t window) ∙ winner in-space in-mark above e
+
+    bit-clear : (above : Bool) → windowSure w (winsSure above) sent ≡ true → windowSure w (clearSure above) sent ≡ true
+        → decisionOf t window .bit ≡ cond above Space Mark
+    unfolding windowSure
+    bit-clear above e f =
+        ap (λ (d : Decision). d .bit) (decision-ℕ t window) ∙ weighed-as (energyℕ window (t .space)) (energyℕ window (t .mark)) (cond above Space Mark) (clear in-space in-mark above e f)
 
     -- k samples of a later bit are in the window
     module _ (earlier later : Bool) (k : ℕ) (e : windowSure w (readSure earlier later k) sent ≡ true) where
@@ -72,7 +93,7 @@ module _ (noise : ℕ) (t : Tones) where
 
       pub carrier-decided : decisionOf t window .good ≡ true
       unfolding readTests
-      carrier-decided = rw (decision-ℕ t window) (carrier-level in-space in-mark (test-passed 0 (lit< tt)))
+      carrier-decided = level-decided ∙ carrier-level in-space in-mark (test-passed 0 (lit< tt))
 
       pub earlier-decided : k ≤ 14 → decisionOf t window .space ≡ earlier
       unfolding readTests windowSure
@@ -85,6 +106,16 @@ module _ (noise : ℕ) (t : Tones) where
       pub same-decided : Bool·beq earlier later ≡ true → decisionOf t window .space ≡ later
       unfolding readTests windowSure
       same-decided c = bit-decided later (rw c at (test-passed 3 (lit< tt)))
+
+      pub earlier-not-doubtful : k ≤ 3 → decisionOf t window .bit ≡ cond earlier Space Mark
+      unfolding readTests windowSure
+      earlier-not-doubtful h =
+          bit-clear earlier (rw (le-leb k 14 (omega arith)) at (test-passed 1 (lit< tt))) (rw (le-leb k 3 h) at (test-passed 4 (lit< tt)))
+
+      pub later-not-doubtful : 31 ≤ k → decisionOf t window .bit ≡ cond later Space Mark
+      unfolding readTests windowSure
+      later-not-doubtful h =
+          bit-clear later (rw (le-leb 19 k (omega arith)) at (test-passed 2 (lit< tt))) (rw (le-leb 31 k h) at (test-passed 5 (lit< tt)))
 
 -- ---- the windows at a phase that passed
 

@@ -2,7 +2,7 @@
 -- test, all do (Opposite); and what a receiver then decides (Facts) is `Margins`.
 -- Assumes nothing.
 use mathlib.Core.Path.{_≡_, refl, subst, _∙_}
-use mathlib.Core.Bool.{Bool, true, false, Bool·beq}
+use mathlib.Core.Bool.{Bool, true, false, cond, Bool·beq}
 use mathlib.Mathlib.Data.Bool.Basic.{and-elim-left, and-elim-right}
 use Prim.Native.Nat.{ℕ, zero, suc, _+_, _*_, _-_, _/_, _%_, _<_, _∣_}
 use native.Mathlib.Nat.{dvd-zero, dvd-add, dvd-sub, dvd-mul-right, dvd-mod-iff, dvd-of-mod-eq-zero, mul-div-cancel', mod-lt, lt-of-mul-lt-mul-left}
@@ -13,14 +13,20 @@ use lib.ListN.{replicate}
 use Rattle.integers.proofs.Tests.{lt-or-le, passesBelow, below-at}
 use Rattle.tones.specs.declared.Tones.{Tones}
 use Rattle.tones.specs.Bands.{stepOf}
+use Rattle.control.specs.declared.Bit.the-variants.{Mark, Space}
+use Rattle.control.specs.Rules.{bitOf}
 use Rattle.margin.specs.Windows.{across, isSpace, Margins}
 use Rattle.margin.proofs.Test.{silenceSure, readSure, Weights, weightsOf, windowSure, phaseSure, allSure, test}
-use Rattle.margin.proofs.Facts.{silence-decided, bit-decided, carrier-decided, earlier-decided, later-decided, same-decided, across-passed, silence-behind-passed}
+use Rattle.margin.proofs.Facts.{silence-decided, bit-decided, carrier-decided, earlier-decided, later-decided, same-decided, earlier-not-doubtful, later-not-doubtful, across-passed, silence-behind-passed}
 use Rattle.margin.proofs.Opposite.{phase-opposite}
 
 same-bit : (b : Bool) → Bool·beq b b ≡ true
 same-bit true = refl
 same-bit false = refl
+
+bit-of : (bit : ℕ) → cond (isSpace bit) Space Mark ≡ bitOf bit
+bit-of zero = refl
+bit-of (suc bit) = refl
 
 -- a phase at which a bit can begin
 record Begins (stride p : ℕ) : Type 0 where
@@ -84,6 +90,10 @@ module _ (noise : ℕ) (t : Tones) (stride count : ℕ) (whole : stride * count 
           later = λ p begins a b k l h window near. later-decided noise t near (isSpace a) (isSpace b) k (two-bits p begins a b k h) l;
           steady = λ p begins a k h window near.
               same-decided noise t near (isSpace a) (isSpace a) k (two-bits p begins a a k h) (same-bit (isSpace a));
+          earlier-clear = λ p begins a b k h window near.
+              earlier-not-doubtful noise t near (isSpace a) (isSpace b) k (two-bits p begins a b k (omega arith)) h ∙ bit-of a;
+          later-clear = λ p begins a b k l h window near.
+              later-not-doubtful noise t near (isSpace a) (isSpace b) k (two-bits p begins a b k h) l ∙ bit-of b;
           mark-then-silence = λ p begins k h window near. bit-decided noise t near false (silence-behind-passed w t p (all p begins) k (omega arith));
           silent = λ window near. silence-decided noise t near silence-passed;
         }

@@ -12,7 +12,7 @@ use Rattle.integers.proofs.Tests.{passes, passesBelow}
 use Rattle.sine.specs.Wave.{wave}
 use Rattle.tones.specs.declared.Tones.{Tones}
 use Rattle.tones.specs.Bands.{stepOf}
-use Rattle.receiver.specs.Energy.{level}
+use Rattle.weighing.specs.Weighing.{level}
 use Rattle.margin.specs.Windows.{phaseAfterBit, isSpace}
 use Rattle.margin.proofs.Energies.{Bounds, ToneWeights, toneWeights, bounds}
 
@@ -31,15 +31,23 @@ unfoldable pub winsSure : (above : Bool) (space mark : Bounds) → Bool
 winsSure true space mark = ltb (mark .most) (space .least)
 winsSure false space mark = leb (space .most) (mark .least)
 
+-- the bit is space, or mark, as `above` says, and not doubtful
+unfoldable pub clearSure : (above : Bool) (space mark : Bounds) → Bool
+clearSure true space mark = leb (5 * mark .most) (4 * space .least)
+clearSure false space mark = leb (5 * space .most) (4 * mark .least)
+
 -- k samples of a later bit are in the window: the level is good, the earlier bit is read up to 14 of them, the later from 19 on, and
--- a bit that follows itself throughout; `earlier` and `later` say whether these bits are space
+-- a bit that follows itself throughout; the earlier is not doubtful up to 3 of them, nor is the later with 31; `earlier` and `later` say
+-- whether these bits are space
 unfoldable pub readTests : (earlier later : Bool) (k : ℕ) (space mark : Bounds) → List Bool
-unfolding carrierSure winsSure
+unfolding carrierSure winsSure clearSure
 readTests earlier later k space mark =
     carrierSure space mark
     ∷ cond (leb k 14) (winsSure earlier space mark) true
     ∷ cond (leb 19 k) (winsSure later space mark) true
     ∷ cond (Bool·beq earlier later) (winsSure later space mark) true
+    ∷ cond (leb k 3) (clearSure earlier space mark) true
+    ∷ cond (leb 31 k) (clearSure later space mark) true
     ∷ []
 
 unfoldable pub readSure : (earlier later : Bool) (k : ℕ) (space mark : Bounds) → Bool

@@ -11,6 +11,7 @@ use Rattle.integers.specs.Near.{Near}
 use Rattle.sine.specs.Wave.{wave}
 use Rattle.tones.specs.declared.Tones.{Tones}
 use Rattle.tones.specs.Bands.{stepOf}
+use Rattle.control.specs.Rules.{bitOf}
 use Rattle.receiver.specs.Energy.{decisionOf}
 
 -- the most that a sample is altered by, either way: the specification, "Whole recordings"
@@ -47,6 +48,10 @@ pub record Margins (noise : ℕ) (t : Tones) : Type 1 where
   pub later : (p : ℕ) → Begins p → (a b k : ℕ) → 19 ≤ k → k < 32 → (w : List ℤ) → Near noise (across t p a b k) w
       → decisionOf t w .space ≡ isSpace b
   pub steady : (p : ℕ) → Begins p → (a k : ℕ) → k < 32 → (w : List ℤ) → Near noise (across t p a a k) w → decisionOf t w .space ≡ isSpace a
+  -- where a slot falls, with up to 3 samples of the later bit or 31, the bit is not doubtful
+  pub earlier-clear : (p : ℕ) → Begins p → (a b k : ℕ) → k ≤ 3 → (w : List ℤ) → Near noise (across t p a b k) w → decisionOf t w .bit ≡ bitOf a
+  pub later-clear : (p : ℕ) → Begins p → (a b k : ℕ) → 31 ≤ k → k < 32 → (w : List ℤ) → Near noise (across t p a b k) w
+      → decisionOf t w .bit ≡ bitOf b
   -- space is not above mark while at most 15 silent samples have followed a mark bit
   pub mark-then-silence : (p : ℕ) → Begins p → (k : ℕ) → k ≤ 15 → (w : List ℤ) → Near noise (markThenSilence t p k) w → decisionOf t w .space ≡ false
   -- silence has no good level

@@ -79,7 +79,7 @@ module _ {noise : ℕ} (t : Tones) (M : Margins noise t) (m : ℕ) where
   pub through-mark : (p : ℕ) → M .Begins p → (bits Y : List ℕ) → ReadAs (sending (phaseAfterBit t p 1) 1 bits) (at 32 Searching) Y
       → ReadFrom (BetweenCharacters Y 0) (sending p 1 (1 ∷ bits))
   through-mark p begins bits Y rest =
-      through-bit t M p begins 1 1 bits m (BetweenCharacters Y) (λ k h d r. stays-between Y k d (r .steady refl)) mark-over
+      through-bit t M p begins 1 1 bits m (BetweenCharacters Y) (λ k h d r. stays-between Y k d (r .steady refl) (r .earlier-clear)) mark-over
     where
       mark-over : ReadFrom (BetweenCharacters Y 32) (sending (phaseAfterBit t p 1) 1 bits)
       mark-over s X none-due = rest

@@ -12,17 +12,22 @@ use Rattle.control.specs.declared.Next.{Next}
 use Rattle.control.specs.declared.Stage.{Stage}
 use Rattle.control.specs.declared.Stage.the-variants.{Searching, Waiting}
 use Rattle.control.specs.declared.Control.{Control}
-use Rattle.control.specs.Rules.{numbers, quiet, report, runAfter, nextOf, controlAfter, reported}
+use Rattle.control.specs.Rules.{numbers, quiet, report, runAfter, bitOf, nextOf, controlAfter, reported}
 use Rattle.control.proofs.Rules.{control-after, events-reported, search-found, search-mark, wait-more, wait-taken, run-full, stop-mark}
 use Rattle.margin.specs.Windows.{isSpace}
 
 abbrev pub at : ℕ → Stage → Control
 at run stage = record { run = run; stage = stage }
 
--- a good level that reads a bit: all that is asked of a decision
+-- a good level that reads a bit: all that is asked of a decision but at a data or stop slot
 pub record Reads (d : Decision) (bit : ℕ) : Type 0 where
   pub good : d .good ≡ true
   pub space : d .space ≡ isSpace bit
+
+-- a good level with a bit that is not doubtful, for these slots
+pub record Clear (d : Decision) (bit : ℕ) : Type 0 where
+  pub good : d .good ≡ true
+  pub weighed : d .bit ≡ bitOf bit
 
 -- what holds of a state and of the events that are still to come
 abbrev pub Invariant : Type 1
@@ -81,8 +86,8 @@ searches d r {X} p = goes d (r .good) Searching (quiet Searching) X (search-mark
 pub finds : {P : Invariant} (d : Decision) → Reads d 0 → {X : List ℕ} → P (at 32 (Waiting 16 0 0)) X → Moves P (at 32 Searching) d X
 finds d r {X} p = goes d (r .good) Searching (quiet (Waiting 16 0 0)) X (search-found 32 d refl (r .space)) p
 
-pub stops : {P : Invariant} (d : Decision) → Reads d 1 → (byte : ℕ) {X : List ℕ} → P (at 32 Searching) X
+pub stops : {P : Invariant} (d : Decision) → Clear d 1 → (byte : ℕ) {X : List ℕ} → P (at 32 Searching) X
     → Moves P (at 32 (Waiting 1 9 byte)) d (byte ∷ X)
 stops d r byte {X} p =
     goes d (r .good) (Waiting 1 9 byte) (report byte) X
-    (wait-taken 32 d 1 9 byte refl ∙ stop-mark byte d 9 (λ z. omega arith) (r .good) (omega arith) (r .space)) p
+    (wait-taken 32 d 1 9 byte refl ∙ stop-mark byte d 9 (λ z. omega arith) (r .good) (omega arith) (r .weighed)) p

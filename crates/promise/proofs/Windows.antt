@@ -20,7 +20,7 @@ use Rattle.control.specs.declared.Decision.{Decision}
 use Rattle.receiver.specs.Energy.{decisionOf}
 use Rattle.margin.specs.Windows.{phaseAfterBit, across, Margins}
 use Rattle.promise.specs.Recordings.{silence}
-use Rattle.promise.proofs.Steps.{Reads, Invariant, Keeps}
+use Rattle.promise.proofs.Steps.{Reads, Clear, Invariant, Keeps}
 use Rattle.promise.proofs.Along.{GivesFrom, along}
 
 -- one silence behind another
@@ -62,12 +62,15 @@ module _ (a : List ℤ) (e : length a ≡ 32) (m k : ℕ) (l : k ≤ m) where
       ∙ ap (take 32) (drop-append-add a (silence m) (k - 32) ∙ ap (drop (k - 32)) (sym (append-nil (silence m))))
       ∙ silent-window m (k - 32) [] (omega arith)
 
--- What is read in a window with k samples of the bit b behind those of the bit a: the first up to 14, the second from 19 on.
+-- What is read in a window with k samples of the bit b behind those of the bit a: the first up to 14, the second from 19 on; without
+-- doubt the first up to 3, and the second with 31.
 pub record ReadAcross (a b k : ℕ) (d : Decision) : Type 0 where
   pub good : d .good ≡ true
   pub earlier : k ≤ 14 → Reads d a
   pub later : 19 ≤ k → Reads d b
   pub steady : a ≡ b → Reads d a
+  pub earlier-clear : k ≤ 3 → Clear d a
+  pub later-clear : 31 ≤ k → Clear d b
 
 module _ {noise : ℕ} (t : Tones) (M : Margins noise t) where
   read-across : (p : ℕ) → M .Begins p → (a b k : ℕ) → k < 32 → (w : List ℤ) → Near noise (across t p a b k) w → ReadAcross a b k (decisionOf t w)
@@ -79,6 +82,8 @@ module _ {noise : ℕ} (t : Tones) (M : Margins noise t) where
         earlier = λ l. record { good = good; space = M .earlier p s a b k l w n };
         later = λ l. record { good = good; space = M .later p s a b k l h w n };
         steady = λ e. record { good = good; space = M .steady p s a k h w (subst (λ (c : ℕ). Near noise (across t p a c k) w) (sym e) n) };
+        earlier-clear = λ l. record { good = good; weighed = M .earlier-clear p s a b k l w n };
+        later-clear = λ l. record { good = good; weighed = M .later-clear p s a b k l h w n };
       }
 
   -- the samples from the bit a on, which begins at the phase p: the bit, those behind it, and m silent ones

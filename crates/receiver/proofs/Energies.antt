@@ -2,16 +2,13 @@
 -- Assumes nothing.
 use mathlib.Core.Path.{_≡_, sym, ap, ap₂, _∙_}
 use mathlib.Core.List.{List}
-use Prim.Native.Nat.{ℕ, _+_, _*_, _<_, max}
+use Prim.Native.Nat.{ℕ, _+_, _*_, _<_}
 use native.Mathlib.Nat.{zero-add, add-comm}
 use native.Mathlib.Omega.{arith}
-use borrow.Author.Tests.{lt-ltb, le-ltb}
-use lib.Dec.{ltb, leb}
 use lib.IntN.{ℤ, pos, _+ℤ_, _*ℤ_}
 use lib.ListN.{getD, drop, length-drop}
 use lib.Seq.{length-take-le}
 use Rattle.integers.specs.Sums.{dot, sumTo}
-use Rattle.integers.proofs.Tests.{lt-or-le}
 use Rattle.integers.proofs.Size.{square}
 use Rattle.integers.proofs.Sums.{sumTo-same, sumTo-dot, products, bounded-take, bounded-drop}
 use Rattle.sine.specs.Sine.{S, C}
@@ -19,7 +16,8 @@ use Rattle.sine.specs.Wave.{wave, weightsOf}
 use Rattle.sine.proofs.Wave.{length-wave, wave-at}
 use Rattle.sine.proofs.Parts.{length-weights, weights-bound, weights-parts}
 use Rattle.tones.specs.declared.Tones.{Tones}
-use Rattle.receiver.specs.Energy.{inPhase, quadrature, energy, energyℕ, level, decided, decisionOf}
+use Rattle.weighing.specs.Weighing.{decided}
+use Rattle.receiver.specs.Energy.{inPhase, quadrature, energy, energyℕ, decisionOf}
 use Rattle.receiver.specs.AsCoded.{AreWeights, energyBy, IsBank, kind, decisionBy}
 
 -- ---- by lists of weights
@@ -68,20 +66,8 @@ energy-ℕ : (window : List ℤ) (t : ℕ) → energy window t ≡ pos (energy�
 unfolding energy energyℕ
 energy-ℕ window t = ap₂ (λ (a b : ℤ). a +ℤ b) (square (inPhase window t)) (square (quadrature window t))
 
-decided-ℕ : (space mark : ℕ) → decided (pos space) (pos mark) ≡ record { good = leb level (max space mark); space = ltb mark space }
-decided-ℕ space mark =
-    lt-or-le space mark
-    (λ h. let e : max space mark ≡ mark = omega arith in rw (lt-ltb space mark h, e))
-    (λ h. let e : max space mark ≡ space = omega arith in rw (le-ltb space mark h, e))
-
--- the decision by the orders of natural numbers
+-- the decision from them
 pub decision-ℕ : (t : Tones) (window : List ℤ)
-    → decisionOf t window
-    ≡ record {
-      good = leb level (max (energyℕ window (t .space)) (energyℕ window (t .mark)));
-      space = ltb (energyℕ window (t .mark)) (energyℕ window (t .space));
-    }
+    → decisionOf t window ≡ decided (pos (energyℕ window (t .space))) (pos (energyℕ window (t .mark)))
 unfolding decisionOf
-decision-ℕ t window =
-    ap₂ (λ (a b : ℤ). decided a b) (energy-ℕ window (t .space)) (energy-ℕ window (t .mark))
-    ∙ decided-ℕ (energyℕ window (t .space)) (energyℕ window (t .mark))
+decision-ℕ t window = ap₂ (λ (a b : ℤ). decided a b) (energy-ℕ window (t .space)) (energy-ℕ window (t .mark))

@@ -15,12 +15,12 @@ use Rattle.control.specs.Rules.{runAfter}
 use Rattle.control.specs.AsCoded.{runOver}
 use Rattle.control.proofs.Stretches.{run-append, run-low, run-slow}
 use Rattle.receiver.specs.declared.moves.Place.{Place}
-use Rattle.receiver.specs.AsCoded.{judged, IsPlace, runBefore, runAt, exactly, movedTo}
+use Rattle.receiver.specs.AsCoded.{unjudged, judged, IsPlace, runBefore, runAt, exactly, movedTo}
 
 module _ (ds : List Decision) where
   -- one decision more
   pub decision-more : (i j : ℕ) → i ≤ j → j < length ds → slice i (j + 1) ds ≡ slice i j ds ++ judged ds j ∷ []
-  decision-more i j h l = slice-more ds i j (record { good = false; space = false }) h l
+  decision-more i j h l = slice-more ds i j unjudged h l
 
   -- ---- places
 

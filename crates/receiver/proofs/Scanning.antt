@@ -2,7 +2,7 @@
 -- a list, the laws of places and those of a buffer being filled.
 -- Assumes nothing.
 use mathlib.Core.Path.{_≡_, sym, ap, _∙_}
-use mathlib.Core.Bool.{true, false}
+use mathlib.Core.Bool.{true}
 use mathlib.Core.List.{List, [], _++_, map, map-append}
 use Prim.Native.Nat.{ℕ, _+_, _-_, _<_, _≤_, zero-le}
 use native.Mathlib.Omega.{arith}
@@ -24,7 +24,7 @@ use Rattle.control.proofs.Ranges.{control-run, follow-kept}
 use Rattle.receiver.specs.declared.moves.Place.{Place}
 use Rattle.receiver.specs.declared.scan.Reached.{Reached}
 use Rattle.receiver.specs.declared.scan.Turn.{Turn}
-use Rattle.receiver.specs.AsCoded.{IsWindow, decisionBy, reachedBy, recorded, IsSource, decisionsBy, judged, IsPlace, runAt, controlAt, exactly, Onward}
+use Rattle.receiver.specs.AsCoded.{IsWindow, decisionBy, reachedBy, recorded, IsSource, decisionsBy, unjudged, judged, IsPlace, runAt, controlAt, exactly, Onward}
 use Rattle.receiver.proofs.Windows.{length-decisions, decisions-at}
 use Rattle.receiver.proofs.Places.{place-exact, run-exact}
 
@@ -53,7 +53,7 @@ module _ {weights head xs : List ℤ} (s : IsSource weights head xs) where
     pub window-judged : decisionBy weights window ≡ judged (decisionsBy weights head xs) i
     window-judged =
         ap (decisionBy weights) e
-        ∙ sym (decisions-at (decisionBy weights) i (recorded head xs) (record { good = false; space = false }) (omega (arith, recorded-long)))
+        ∙ sym (decisions-at (decisionBy weights) i (recorded head xs) unjudged (omega (arith, recorded-long)))
 
   -- where the code finds it: in the head, or in the block
   pub window-begun : (i : ℕ) → i < 31 → i < length xs → take (i + 33 - (i + 1)) (drop (i + 1) head) ≡ take 32 (drop i (recorded head xs))

@@ -15,18 +15,19 @@ use Rattle.calls.specs.Refusals.{firstOf}
 use Rattle.calls.specs.Outcome.{Outcome, unlessRefused, accepted}
 use Rattle.calls.specs.Runs.{withIndex}
 use Rattle.tones.specs.Samples.{areSamples}
+use Rattle.control.specs.declared.Bit.the-variants.{Doubtful}
 use Rattle.control.specs.declared.Decision.{Decision}
 use Rattle.control.specs.declared.Stage.{Stage}
 use Rattle.control.specs.declared.Event.the-variants.{Nothing}
 use Rattle.control.specs.declared.Control.{Control}
 use Rattle.control.specs.Rules.{numbers, follow, reports, reportsFrom}
 use Rattle.control.specs.AsCoded.{isFound, runOver, NoneFound}
+use Rattle.weighing.specs.Weighing.{decided}
 use Rattle.receiver.specs.declared.moves.Place.{Place}
 use Rattle.receiver.specs.declared.seek.Sought.{Sought}
 use Rattle.receiver.specs.declared.scan.Turn.{Turn}
 use Rattle.receiver.specs.declared.scan.Reached.{Reached}
 use Rattle.receiver.specs.declared.Receiver.{Receiver}
-use Rattle.receiver.specs.Energy.{decided}
 use Rattle.receiver.specs.Step.{stateAfter, eventsAfter, indexedAfter}
 use Rattle.receiver.specs.Calls.{blockTests}
 use Rattle.receiver.specs.Windows.{decisions}
@@ -76,9 +77,12 @@ pub record IsSource (weights head samples : List ℤ) : Type 0 where
 abbrev pub decisionsBy : List ℤ → List ℤ → List ℤ → List Decision
 decisionsBy weights head samples = decisions (decisionBy weights) (recorded head samples)
 
--- decision i
+-- decision i, where there is one
+abbrev pub unjudged : Decision
+unjudged = record { good = false; space = false; bit = Doubtful }
+
 abbrev pub judged : List Decision → ℕ → Decision
-judged ds i = getD ds i (record { good = false; space = false })
+judged ds i = getD ds i unjudged
 
 -- ---- places
 

@@ -1,15 +1,15 @@
--- The energies of the two tones in a window, and what they decide: the specification, "Reader, step by step", rules 2 and 3.
+-- The energies of the two tones in a window, and what they decide: the specification, "Reader, step by step", rule 2, and rule 3 by
+-- `weighing`.
 -- Assumes nothing.
-use mathlib.Core.Bool.{cond}
 use mathlib.Core.List.{List}
 use Prim.Native.Nat.{ℕ, _+_, _*_}
 use lib.IntN.{ℤ, pos, natAbs, _+ℤ_, _*ℤ_}
 use lib.ListN.{getD}
-use lib.Signed.{ltZ, leZ}
 use Rattle.integers.specs.Sums.{sumTo}
 use Rattle.sine.specs.Sine.{S, C}
 use Rattle.tones.specs.declared.Tones.{Tones}
 use Rattle.control.specs.declared.Decision.{Decision}
+use Rattle.weighing.specs.Weighing.{decided}
 
 -- ---- rule 2, for the tone with step t
 
@@ -30,19 +30,7 @@ unfoldable pub energyℕ : List ℤ → ℕ → ℕ
 energyℕ window t =
     natAbs (inPhase window t) * natAbs (inPhase window t) + natAbs (quadrature window t) * natAbs (quadrature window t)
 
--- ---- rule 3, and the comparison of rules 4 to 6
+-- ---- rule 3, and the comparison of rules 4 to 6, for the tones t
 
--- the least energy of a good level
-abbrev pub level : ℕ
-level = 32400000000000000
-
-abbrev pub larger : ℤ → ℤ → ℤ
-larger a b = cond (ltZ a b) b a
-
--- from the energies of space and mark: the level is good if the larger is at least `level`; space is above mark
-abbrev pub decided : ℤ → ℤ → Decision
-decided space mark = record { good = leZ (pos level) (larger space mark); space = ltZ mark space }
-
--- the same from a window, for the tones t
 unfoldable pub decisionOf : Tones → List ℤ → Decision
 decisionOf t window = decided (energy window (t .space)) (energy window (t .mark))

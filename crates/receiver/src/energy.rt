@@ -3,7 +3,6 @@ ghost use mathlib.Core.Path.{_≡_};
 ghost use Prim.Native.Nat.{_<_, _≤_};
 ghost use lib.IntN.{natAbs, _+ℤ_, _*ℤ_};
 ghost use lib.ListN.{length};
-ghost use Rattle.receiver.specs.Energy.{decided};
 ghost use Rattle.receiver.specs.AsCoded.{IsWindow, AreWeights, energyBy, IsBank, decisionBy, IsSource, decisionsBy, judged};
 use control::Decision;
 
@@ -32,18 +31,7 @@ fn decide(window: &[i16], weights: &[i16]) -> Decision
 {
     let space = energy(window, &weights[0..32], &weights[32..64]);
     let mark = energy(window, &weights[64..96], &weights[96..128]);
-    compare(space, mark)
-}
-
-// The level and the larger tone from the two energies.
-fn compare(space: i64, mark: i64) -> Decision
-    ensures { λ r. ⌜ r ≡ decided space mark ⌝ }
-{
-    let larger = if space < mark { mark } else { space };
-    Decision {
-        good: 32_400_000_000_000_000 <= larger,
-        space: mark < space,
-    }
+    weighing::weigh(space, mark)
 }
 
 // I times I + Q times Q. One loop after the other in one function: so the compiler makes vector code of both, and loads the

@@ -1,19 +1,16 @@
 -- An accepted block of a tap: what each receiver wrote to its own lists, and that the two lists merged are the tap's events.
 -- Assumes nothing.
 use mathlib.Core.Path.{_≡_, refl, sym, ap, ap₂, _∙_}
-use mathlib.Core.Bool.{true, false, false≢true}
+use mathlib.Core.Bool.{true}
 use mathlib.Core.List.{List, [], _∷_}
 use mathlib.Mathlib.Data.Bool.Basic.{and-elim-left, and-elim-right}
 use Prim.Native.Nat.{ℕ, suc, _+_, _<_, _≤_, min}
 use native.Mathlib.Omega.{arith}
-use borrow.Author.Tests.{le-ltb, ne-eqb}
-use lib.Dec.{eqb}
 use lib.IntN.{ℤ}
 use lib.ListN.{length, take, drop, replicate, length-map, length-replicate}
 use lib.Seq.{sets, take-append-seam}
 use Rattle.integers.specs.All.{All, none, more}
 use Rattle.integers.proofs.Lists.{sets-front}
-use Rattle.integers.proofs.Tests.{lt-or-le}
 use Rattle.calls.specs.Refusals.{firstOf}
 use Rattle.calls.specs.Outcome.{Outcome, outcome, refused, isAccepted, over, oneList, bothIn, acceptedIn, accepted}
 use Rattle.calls.specs.Runs.{after}
@@ -23,6 +20,7 @@ use Rattle.calls.proofs.Indexed.{values, indices, indexed-values}
 use Rattle.tones.specs.Bands.{isPair}
 use Rattle.tones.proofs.Laws.{band-digit, pair-known}
 use Rattle.control.specs.Rules.{isEvent}
+use Rattle.control.proofs.Events.{event-case}
 use Rattle.receiver.specs.declared.Receiver.{Receiver}
 use Rattle.receiver.specs.Step as receiver
 use Rattle.receiver.specs.Calls as calls
@@ -42,12 +40,7 @@ use Rattle.tap.proofs.Order.{in-order}
 
 -- every event is below 1,000, so that its band can be told
 below : (n : ℕ) → isEvent n ≡ true → n < 1000
-unfolding isEvent
-below n e =
-    lt-or-le n 1000 (λ h. h)
-    (λ h.
-    let other : (m : ℕ) → m < 1000 → eqb n m ≡ false = λ m l. ne-eqb n m (λ q. omega arith) in
-    absurd (false≢true (rw (le-ltb n 256 (omega arith), other 256 (omega arith), other 257 (omega arith), other 258 (omega arith)) at e)))
+below = event-case (λ (n : ℕ). n < 1000) (λ n l. omega arith) (omega arith) (omega arith) (omega arith) (omega arith)
 
 pub small : (ns : List ℕ) → All (λ n. isEvent n ≡ true) ns → All (λ n. n < 1000) ns
 small [] none = none

@@ -1,28 +1,36 @@
 //! What readings have brought: a test that met too little would show nothing.
 
-use super::receiver::{compare_accepted, read_by, Reading, BREAK, CARRIER_LOST, NO_STOP_BIT};
+use super::receiver::{
+    compare_accepted, read_by, Reading, BREAK, CARRIER_LOST, DOUBT, NO_STOP_BIT,
+};
 use reference::library::Numbers;
 
-/// How many events are characters, missing stop bits, lost carriers and breaks.
-pub type Kinds = [usize; 4];
+/// How many events are characters, missing stop bits, lost carriers, breaks and doubts.
+pub type Kinds = [usize; 5];
 
 pub fn kinds(events: &[u16]) -> Kinds {
-    let mut kinds = [0; 4];
+    let mut kinds = [0; 5];
     for &event in events {
         kinds[match event {
             0..=255 => 0,
             NO_STOP_BIT => 1,
             CARRIER_LOST => 2,
             BREAK => 3,
+            DOUBT => 4,
             _ => panic!("event {event}"),
         }] += 1;
     }
     kinds
 }
 
+/// A line inside the margin never shows a doubt.
+pub fn assert_no_doubt(events: &[u16], what: impl Fn() -> String) {
+    assert_eq!(kinds(events)[4], 0, "doubts: {}", what());
+}
+
 /// At least so many of each.
 pub fn assert_frequent(kinds: Kinds, least: Kinds) {
-    let enough = (0..4).all(|kind| kinds[kind] >= least[kind]);
+    let enough = (0..5).all(|kind| kinds[kind] >= least[kind]);
     assert!(enough, "{kinds:?} is too rare for {least:?}");
 }
 
@@ -42,7 +50,7 @@ type Counts = [usize; 33];
 impl Met {
     pub fn new() -> Met {
         Met {
-            kinds: [0; 4],
+            kinds: [0; 5],
             runs: [[0; 33]; 3],
             waits: [[0; 33]; 10],
         }

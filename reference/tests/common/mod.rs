@@ -5,13 +5,15 @@
 //! receiver gave; `sheet_calls` and `loopback` have other calls, and `lent` the lists
 //! that any call is lent. `process` runs the programs, and `faults` lets their reads
 //! and writes go wrong. `sheets` and `forms` have sheets and almost sheets, `lengths`
-//! how long they are, and `disturbances` what a line may add. `c` compiles C.
+//! how long they are, and `disturbances` what a line may add. `weighed` has windows with
+//! their energies, and `doubtful` those at the edge of doubt. `c` compiles C.
 //! `declared` reads what the files of a crate say, and `made` compares a file with
 //! what a program makes.
 
 pub mod c;
 pub mod declared;
 pub mod disturbances;
+pub mod doubtful;
 pub mod faults;
 pub mod forms;
 pub mod indexed;
@@ -29,6 +31,7 @@ pub mod sheet_calls;
 pub mod sheets;
 pub mod states;
 pub mod tap;
+pub mod weighed;
 
 use lent::{no_sample, Lent};
 use reference::library;

@@ -16,8 +16,9 @@ pub const MOST_SAMPLES: usize = 16_384;
 pub const NO_STOP_BIT: u16 = 256;
 pub const CARRIER_LOST: u16 = 257;
 pub const BREAK: u16 = 258;
+pub const DOUBT: u16 = 259;
 /// An event is below this.
-pub const EVENTS: usize = 259;
+pub const EVENTS: usize = 260;
 
 pub const FRESH: Numbers = Numbers {
     band: 1,

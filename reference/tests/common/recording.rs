@@ -52,6 +52,22 @@ pub fn toned(band: u8, bits: impl IntoIterator<Item = usize>) -> Vec<i16> {
     bits.into_iter().map(sample).collect()
 }
 
+/// Two phases of the other tone that leave a bit in doubt. In bands 3 and 4 not every
+/// phase does.
+const IN_DOUBT: [[usize; 2]; 4] = [[0, 840], [0, 840], [240, 1_200], [0, 840]];
+
+/// The samples of any bits, from phase 0, where in one bit the other tone is as strong,
+/// from one of two phases on. The tone of the bit runs through it.
+pub fn keyed_in_doubt(band: u8, bits: &[usize], place: usize, which: usize) -> Vec<i16> {
+    let mut samples = keyed(band, bits);
+    let phase = IN_DOUBT[usize::from(band) - 1][which];
+    let step = steps(band)[1 - bits[place]];
+    for (index, sample) in samples[32 * place..][..32].iter_mut().enumerate() {
+        *sample = (*sample + sines().s(phase + index * step)) / 3 * 2;
+    }
+    samples
+}
+
 /// So many samples of space, from phase 0.
 pub fn space(band: u8, count: usize) -> Vec<i16> {
     toned(band, vec![0; count])

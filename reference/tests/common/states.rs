@@ -80,6 +80,23 @@ pub fn tone_of(random: &mut Random, step: usize, count: usize) -> Vec<i16> {
     (0..count).map(sample).collect()
 }
 
+/// Both tones at once, at any phases, about equally strong: the energy of one is up to
+/// half as much again as that of the other.
+pub fn any_doubt(random: &mut Random, band: u8, count: usize) -> Vec<i16> {
+    let [space, mark] = steps(band);
+    let phases = [(); 2].map(|()| random.below(1_920));
+    // In 6000ths; two tones of 4045 stay in range, also when each sample is altered.
+    let larger = 2_000 + random.below(2_046) as i32;
+    let smaller = larger * (820 + random.below(181) as i32) / 1_000;
+    let [first, second] = [[larger, smaller], [smaller, larger]][random.below(2)];
+    let sample = |place| {
+        let [space, mark] = [phases[0] + place * space, phases[1] + place * mark];
+        let [space, mark] = [space, mark].map(|phase| i32::from(sines().s(phase)));
+        ((first * space + second * mark) / 6_000) as i16
+    };
+    (0..count).map(sample).collect()
+}
+
 /// Silence, noise of any loudness, or a tone, each changing now and then.
 pub fn any_samples(random: &mut Random, band: u8, count: usize) -> Vec<i16> {
     any_pieces(random, band, count, 300)

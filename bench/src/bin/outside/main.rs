@@ -53,7 +53,7 @@ fn say_what_is_measured(signal: &Signal, in_a_sending: usize) {
         "Shares of the characters sent, in percent: right, wrong, missing, extra; or 100 if all were right and none extra. \
          Of as many characters drawn at random {all:.1} are right, of half as many {half:.1}.",
     );
-    println!("`faults` are the library's events 256 to 258. `-`: the reader is not installed.");
+    println!("`faults` are the library's events 256 to 259. `-`: the reader is not installed.");
     println!();
 }
 

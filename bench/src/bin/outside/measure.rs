@@ -20,7 +20,8 @@ pub struct Measured {
     pub change: u16,
     /// The share of the samples that were clipped.
     pub clipped: f64,
-    /// What the library told besides characters: no stop bit, carrier lost, break.
+    /// What the library told besides characters: no stop bit, carrier lost, break,
+    /// doubtful bit.
     pub faults: usize,
     /// None of a reader that is not installed.
     pub scores: [Option<Score>; READERS.len()],

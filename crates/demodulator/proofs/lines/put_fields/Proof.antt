@@ -80,11 +80,26 @@ same-length-4 : tie.Need-same-length-4
 same-length-4 c = search needs
 
 returns-4 : tie.Need-returns-4
-returns-4 c =
+returns-4 c = rw (c .before .before .before .before .before .if4 .taken) (refl, c .before .before .put-bytes4 .ensures)
+
+slice-aggregate-put-bytes-5 : tie.Need-slice-aggregate-put-bytes-5
+slice-aggregate-put-bytes-5 c = search needs
+
+put-bytes-requires-5 : tie.Need-put-bytes-requires-5
+put-bytes-requires-5 c κs = tt
+
+add-result-5 : tie.Need-add-result-5
+add-result-5 c = search needs
+
+same-length-5 : tie.Need-same-length-5
+same-length-5 c = search needs
+
+returns-5 : tie.Need-returns-5
+returns-5 c =
     let above = c .before .before .before .before .before in
-    let start = above .before .before .before .before in
-    let e = last-row (start .args .event) (omega (arith, above .before .before .if1 .left, above .before .if2 .left, above .if3 .left)) (start .pre .0) in
-    rw e (refl, c .before .before .put-bytes4 .ensures)
+    let start = above .before .before .before .before .before in
+    let e = last-row (start .args .event) (omega (arith, above .before .before .before .if1 .left, above .before .before .if2 .left, above .before .if3 .left, above .if4 .left)) (start .pre .0) in
+    rw e (refl, c .before .before .put-bytes5 .ensures)
 
 pub put-fields-spec : {M : Type 1} → statement M
 put-fields-spec =
@@ -111,4 +126,9 @@ put-fields-spec =
     put-bytes-requires-4
     add-result-4
     same-length-4
-    returns-4)
+    returns-4
+    slice-aggregate-put-bytes-5
+    put-bytes-requires-5
+    add-result-5
+    same-length-5
+    returns-5)

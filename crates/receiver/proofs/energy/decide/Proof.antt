@@ -6,7 +6,7 @@ use borrow.Author.Needs.{needs, sfits-of}
 use lib.IntN.{ℤ}
 use mir.Syntax.{w64}
 use mir.Facts.{toZ-ofZ}
-use Rattle.receiver.specs.Energy.{decided}
+use Rattle.weighing.specs.Weighing.{decided}
 use Rattle.receiver.proofs.Energies.{kind-weights}
 use Rattle.receiver.proofs.energy.decide.Statement.{statement}
 use Rattle.receiver.proofs.energy.decide.Tie as tie
@@ -57,17 +57,17 @@ energy-requires-2 c κs =
     let s = c .before .before .before .before .before in
     (s .pre .0, (kind-weights 2 (omega arith) (s .pre .1), kind-weights 3 (omega arith) (s .pre .1)))
 
-compare-requires : tie.Need-compare-requires
-compare-requires c κs = tt
+weigh-requires : tie.Need-weigh-requires
+weigh-requires c κs = tt
 
 returns : tie.Need-returns
 returns c =
     let space = c .before .before .before .before .energy in
     let mark = c .before .energy2 in
-    c .compare .ensures
+    c .weigh .ensures
     ∙ ap₂ (λ (a b : ℤ). decided a b)
     (toZ-ofZ (sfits-of {w = w64} {z = space .result} (space .ok)) ∙ space .ensures)
     (toZ-ofZ (sfits-of {w = w64} {z = mark .result} (mark .ok)) ∙ mark .ensures)
 
 pub decide-spec : {M : Type 1} → statement M
-decide-spec = tie.close (tie.spec sub-energy part-energy-start part-energy-end sub-energy-2 part-energy-start-2 part-energy-end-2 energy-requires sub-energy-3 part-energy-start-3 part-energy-end-3 sub-energy-4 part-energy-start-4 part-energy-end-4 energy-requires-2 compare-requires returns)
+decide-spec = tie.close (tie.spec sub-energy part-energy-start part-energy-end sub-energy-2 part-energy-start-2 part-energy-end-2 energy-requires sub-energy-3 part-energy-start-3 part-energy-end-3 sub-energy-4 part-energy-start-4 part-energy-end-4 energy-requires-2 weigh-requires returns)
