@@ -1,8 +1,8 @@
 -- The cases of the rules, each an equation under the tests that lead to it.
 -- Assumes nothing.
 use mathlib.Core.Path.{_≡_, refl, ap, _∙_}
-use mathlib.Core.Bool.{Bool, true, false, cond, not, _&&_, and-false, Bool·beq}
-use Prim.Native.Nat.{ℕ, zero, suc, _-_, _<_, _≤_}
+use mathlib.Core.Bool.{Bool, true, false, cond, not, _&&_, and-false, Bool·beq, false≢true, true≢false}
+use Prim.Native.Nat.{ℕ, zero, suc, _+_, _-_, _*_, _^_, _<_, _≤_}
 use native.Mathlib.Omega.{arith}
 use borrow.Author.Tests.{le-leb, lt-leb, eq-eqb, ne-eqb, leb-true, leb-false, eqb-true, eqb-false, not-false}
 use lib.Dec.{leb, eqb}
@@ -17,8 +17,8 @@ use Rattle.control.specs.declared.Stage.{Stage}
 use Rattle.control.specs.declared.Stage.the-variants.{Searching, Waiting, Held}
 use Rattle.control.specs.declared.Control.{Control}
 use Rattle.control.specs.Ranges.{isSlot}
-use Rattle.control.specs.Rules.{noStop, carrierLost, bitDoubtful, numbers, quiet, report, holdBreak, endsBreak, runAfter, bitOf, gathered, bitTaken, taken, nextOf, movedBy, controlAfter, reported}
-use Rattle.control.specs.AsCoded.{isFound, askedBy, waitOver}
+use Rattle.control.specs.Rules.{noStop, carrierLost, bitDoubtful, numbers, quiet, report, holdBreak, endsBreak, runAfter, bitOf, gathered, stopMissed, bitTaken, taken, nextOf, movedBy, controlAfter, reported}
+use Rattle.control.specs.AsCoded.{isDoubt, isMark, withBit, isFound, askedBy, waitOver}
 
 -- ---- the run
 
@@ -67,6 +67,28 @@ module _ (byte : ℕ) (d : Decision) where
 
     pub doubt-taken : d .good ≡ true → d .bit ≡ Doubtful → taken slot byte d ≡ report bitDoubtful
     doubt-taken g e = bit-taken g ∙ rw e
+
+-- the bit in the parts that the code has
+module _ (slot byte : ℕ) where
+  pub bit-doubt : (bit : Bit) → isDoubt bit ≡ true → bitTaken slot byte bit ≡ report bitDoubtful
+  bit-doubt Doubtful d = refl
+  bit-doubt Mark d = absurd (false≢true d)
+  bit-doubt Space d = absurd (false≢true d)
+
+  pub bit-data : (bit : Bit) → isDoubt bit ≡ false → slot ≤ 8 → bitTaken slot byte bit ≡ quiet (Waiting 32 (slot + 1) (withBit slot byte bit))
+  bit-data Doubtful d h = absurd (true≢false d)
+  bit-data Mark d h = let e : byte + 2 ^ (slot - 1) * 1 ≡ byte + 2 ^ (slot - 1) = omega arith in simp (le-leb slot 8 h, e)
+  bit-data Space d h = let e : byte + 2 ^ (slot - 1) * 0 ≡ byte = omega arith in simp (le-leb slot 8 h, e)
+
+  pub bit-stop : (bit : Bit) → 8 < slot → isMark bit ≡ true → bitTaken slot byte bit ≡ report byte
+  bit-stop Doubtful h m = absurd (false≢true m)
+  bit-stop Mark h m = rw (lt-leb slot 8 h)
+  bit-stop Space h m = absurd (false≢true m)
+
+  pub bit-no-stop : (bit : Bit) → isDoubt bit ≡ false → 8 < slot → isMark bit ≡ false → bitTaken slot byte bit ≡ stopMissed byte
+  bit-no-stop Doubtful d h m = absurd (true≢false d)
+  bit-no-stop Mark d h m = absurd (true≢false m)
+  bit-no-stop Space d h m = rw (lt-leb slot 8 h)
 
 -- What holds in every case of a slot that is taken holds of what it comes to.
 pub record Cases (P : Next → Type 0) (slot byte : ℕ) (d : Decision) : Type 0 where

@@ -4,9 +4,11 @@
 use mathlib.Core.Path.{_≡_}
 use mathlib.Core.Bool.{Bool, true, false, cond, _&&_, Bool·beq}
 use mathlib.Core.List.{List, [], _∷_}
-use Prim.Native.Nat.{ℕ}
+use Prim.Native.Nat.{ℕ, _+_, _-_, _^_}
 use lib.Dec.{eqb}
 use Rattle.calls.specs.Runs.{after}
+use Rattle.control.specs.declared.Bit.{Bit}
+use Rattle.control.specs.declared.Bit.the-variants.{Mark, Space, Doubtful}
 use Rattle.control.specs.declared.Decision.{Decision}
 use Rattle.control.specs.declared.Stage.{Stage}
 use Rattle.control.specs.declared.Stage.the-variants.{Searching, Waiting, Held}
@@ -15,6 +17,22 @@ use Rattle.control.specs.declared.Asked.the-variants.{Tone, Slot}
 use Rattle.control.specs.declared.Next.{Next}
 use Rattle.control.specs.Ranges.{isSlot}
 use Rattle.control.specs.Rules.{quiet, runAfter, taken}
+
+-- ---- one bit
+
+abbrev pub isDoubt : Bit → Bool
+isDoubt Mark = false
+isDoubt Space = false
+isDoubt Doubtful = true
+
+abbrev pub isMark : Bit → Bool
+isMark Mark = true
+isMark Space = false
+isMark Doubtful = false
+
+-- the byte with the bit of a data slot
+abbrev pub withBit : ℕ → ℕ → Bit → ℕ
+withBit slot byte bit = cond (isMark bit) (byte + 2 ^ (slot - 1)) byte
 
 -- ---- one decision
 

@@ -1,10 +1,11 @@
 // A bit slot: its ranges, and what is done when it is taken.
 ghost use mathlib.Core.Path.{_≡_};
 ghost use mathlib.Core.Bool.{true};
-ghost use Prim.Native.Nat.{_-_, _^_, _≤_};
+ghost use Prim.Native.Nat.{_-_, _^_, _≤_, _<_};
 ghost use Rattle.control.specs.declared.Stage.the-variants.{Waiting};
 ghost use Rattle.control.specs.Ranges.{isWait, isSlot};
 ghost use Rattle.control.specs.Rules.{quiet, report, holdBreak, bitTaken, taken};
+ghost use Rattle.control.specs.AsCoded.{isDoubt, isMark, withBit};
 use super::Bit;
 use super::Decision;
 use super::Event;
@@ -30,30 +31,55 @@ pub(crate) fn take_slot(slot: u8, byte: u8, d: Decision) -> Next
     }
 }
 
-// The bit of a data or stop slot. Data bits, the least significant first, are added to the byte; the stop bit brings an event.
+// The bit of a data or stop slot: it is gathered, or brings an event. Doubt is asked for by itself: sound recordings have none, so that the
+// processor foresees the answer.
 fn take_bit(slot: u8, byte: u8, bit: Bit) -> Next
     requires { ⌜ 1 ≤ slot ⌝ }
     requires { ⌜ isSlot slot byte ≡ true ⌝ }
     ensures { λ r. ⌜ r ≡ bitTaken slot byte bit ⌝ }
 {
+    if is_doubtful(bit) {
+        reporting(259)
+    } else if slot <= 8 {
+        waiting(slot + 1, gather(slot, byte, bit))
+    } else if is_mark(bit) {
+        reporting(byte as u16)
+    } else if byte == 0 {
+        holding()
+    } else {
+        reporting(256)
+    }
+}
+
+// The byte with the bit of a data slot, the least significant first.
+fn gather(slot: u8, byte: u8, bit: Bit) -> u8
+    requires { ⌜ (1 ≤ slot) × (slot ≤ 8) × (byte < 2 ^ (slot - 1)) ⌝ }
+    ensures { λ r. ⌜ r ≡ withBit slot byte bit ⌝ }
+{
+    if is_mark(bit) {
+        byte + weight(slot)
+    } else {
+        byte
+    }
+}
+
+fn is_doubtful(bit: Bit) -> bool
+    ensures { λ r. ⌜ r ≡ isDoubt bit ⌝ }
+{
     match bit {
-        Bit::Doubtful => reporting(259),
-        Bit::Mark => {
-            if slot <= 8 {
-                waiting(slot + 1, byte + weight(slot))
-            } else {
-                reporting(byte as u16)
-            }
-        }
-        Bit::Space => {
-            if slot <= 8 {
-                waiting(slot + 1, byte)
-            } else if byte == 0 {
-                holding()
-            } else {
-                reporting(256)
-            }
-        }
+        Bit::Mark => false,
+        Bit::Space => false,
+        Bit::Doubtful => true,
+    }
+}
+
+fn is_mark(bit: Bit) -> bool
+    ensures { λ r. ⌜ r ≡ isMark bit ⌝ }
+{
+    match bit {
+        Bit::Mark => true,
+        Bit::Space => false,
+        Bit::Doubtful => false,
     }
 }
 
