@@ -35,13 +35,15 @@ static uint8_t transmit(const char *text, int16_t *samples, size_t places, size_
 static uint8_t receive(const int16_t *samples, size_t length)
 {
     uint16_t events[MODEM_EVENT_PLACES(MODEM_MOST_SAMPLES)];
+    int64_t differences[MODEM_EVENT_PLACES(MODEM_MOST_SAMPLES)];
     modem_receiver_opened opened = modem_receiver_open(1);
     modem_receiver receiver = opened.receiver;
     uint8_t number = opened.number;
     for (size_t at = 0; number == MODEM_ACCEPTED && at < length;) {
         size_t rest = length - at;
         size_t n = rest < MODEM_MOST_SAMPLES ? rest : MODEM_MOST_SAMPLES;
-        modem_block block = modem_receiver_block(receiver, samples + at, n, events, sizeof events / sizeof *events);
+        modem_block block = modem_receiver_block(receiver, samples + at, n, events, sizeof events / sizeof *events,
+                                                 differences, sizeof differences / sizeof *differences);
         for (size_t i = 0; i < block.count; i++)
             printf("%u\n", (unsigned)events[i]);
         receiver = block.receiver;

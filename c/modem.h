@@ -39,8 +39,8 @@ extern "C" {
 #define MODEM_LARGEST_SAMPLE 8191   /* either way */
 #define MODEM_DISTURBANCE 100       /* the most that a line may add to a sample, either way */
 
-/* The samples of a message of n characters, and the places that a block of n samples needs for its events: from a receiver, and
- * from a tap. */
+/* The samples of a message of n characters, and the places that a block of n samples needs for its events, and as many for their
+ * differences: from a receiver, and from a tap. */
 #define MODEM_MESSAGE_SAMPLES(n) (2 * MODEM_IDLE_SAMPLES + MODEM_CHARACTER_SAMPLES * (n))
 #define MODEM_EVENT_PLACES(n) ((n) / 48 + 1)
 #define MODEM_TAP_PLACES(n) (2 * MODEM_EVENT_PLACES(n))
@@ -92,8 +92,10 @@ modem_sent modem_transmitter_characters(modem_transmitter transmitter, const uin
 #define MODEM_WAITING 1   /* `wait` samples for the bit `slot` (0 start, 1 to 8 data, 9 stop); `byte` has the data bits so far */
 #define MODEM_HELD 2      /* a break, until mark is back */
 
-/* The receiver: the last 32 samples, oldest first; for how many samples in a row the level has been good, at most 32; and the
- * stage. Where it does not wait, wait, slot and byte are 0. */
+/* The receiver: the last 32 samples, oldest first; for how many samples in a row the level has been good, at most 32; the stage;
+ * and the smallest difference so far between the energies of the two tones, over the data bits of the present character. Where it
+ * does not wait, a call gives 0 for wait, slot and byte. `measured` is 1 while it waits for one of the slots 2 to 9, and otherwise
+ * 0; a call then gives 0 for `smallest`. A call does not look at what it gives as 0 in these two cases. */
 typedef struct {
     uint8_t band;
     int16_t window[32];
@@ -102,6 +104,8 @@ typedef struct {
     uint8_t wait;
     uint8_t slot;
     uint8_t byte;
+    uint8_t measured;
+    int64_t smallest; /* never negative */
 } modem_receiver;
 
 typedef struct {
@@ -118,14 +122,19 @@ typedef struct {
 /* A fresh receiver; that of band 1 if the band is refused. */
 modem_receiver_opened modem_receiver_open(uint8_t band);
 
-/* Reads the next samples of a recording. Where it is cut into blocks makes no difference to the events. */
+/* Reads the next samples of a recording. Where it is cut into blocks changes neither the events nor their differences.
+ *
+ * The difference of an event goes to the place of `differences` that the event has in `events`: how far apart the energies of the
+ * two tones were, larger minus smaller, at that data or stop bit of its character where they were closest, up to and with the bit
+ * that brought the event. Each list needs MODEM_EVENT_PLACES(n). */
 modem_block modem_receiver_block(modem_receiver receiver, const int16_t *samples, size_t n,
-                                 uint16_t *events, size_t places);
+                                 uint16_t *events, size_t places, int64_t *differences, size_t difference_places);
 
 /* The same, and with which sample of the block each event came: its index, counted from 0, goes to the place of `indices` that
- * the event has in `events`. Each list needs MODEM_EVENT_PLACES(n). */
+ * the event has in `events`. Each of the three lists needs MODEM_EVENT_PLACES(n). */
 modem_block modem_receiver_block_indexed(modem_receiver receiver, const int16_t *samples, size_t n,
-                                         uint16_t *events, size_t places, uint16_t *indices, size_t index_places);
+                                         uint16_t *events, size_t places, int64_t *differences, size_t difference_places,
+                                         uint16_t *indices, size_t index_places);
 
 /* The tap, for a line that carries two bands, 1 and 2 or 3 and 4: a receiver of either band, each with a state of its own. */
 typedef struct {
@@ -148,18 +157,20 @@ typedef struct {
 modem_tap_opened modem_tap_open(uint8_t first, uint8_t second);
 
 /* Both receivers read the same samples, each as it would by itself. The events come in the order of the samples; if one sample
- * brings two, that of the lower band comes first. */
-modem_tap_reading modem_tap_block(modem_tap tap, const int16_t *samples, size_t n, uint16_t *events, size_t places);
+ * brings two, that of the lower band comes first. The difference of each stands beside it. Each list needs MODEM_TAP_PLACES(n). */
+modem_tap_reading modem_tap_block(modem_tap tap, const int16_t *samples, size_t n,
+                                  uint16_t *events, size_t places, int64_t *differences, size_t difference_places);
 
 /* Sends a whole message from a fresh transmitter: leader, characters and trailer. The count is of samples. */
 modem_answer modem_message_send(uint8_t band, const uint8_t *bytes, size_t n, int16_t *out, size_t places);
 
 /* Sends a message, adds to each sample the number at its place of `disturbance`, and reads the result in blocks of `block`
- * samples. The samples as they were read and the events, which are the bytes of the message, go to the two lists. The count is
- * of events. */
+ * samples. The samples as they were read, the events, which are the bytes of the message, and their differences go to the three
+ * lists; those of events and of differences need a place for each byte. The count is of events. */
 modem_answer modem_loopback(uint8_t band, const uint8_t *bytes, size_t n,
                             const int16_t *disturbance, size_t numbers, size_t block,
-                            int16_t *samples, size_t sample_places, uint16_t *events, size_t event_places);
+                            int16_t *samples, size_t sample_places, uint16_t *events, size_t event_places,
+                            int64_t *differences, size_t difference_places);
 
 typedef struct {
     uint8_t number;

@@ -28,11 +28,13 @@ static void put_event(uint16_t event)
 static uint8_t read_recording(uint8_t band, const int16_t *samples, size_t n)
 {
     static uint16_t events[MODEM_EVENT_PLACES(MODEM_MOST_SAMPLES)];
+    static int64_t differences[MODEM_EVENT_PLACES(MODEM_MOST_SAMPLES)];
     modem_receiver_opened opened = modem_receiver_open(band);
     modem_block block;
     if (opened.number != MODEM_ACCEPTED)
         return opened.number;
-    block = modem_receiver_block(opened.receiver, samples, n, events, sizeof events / sizeof *events);
+    block = modem_receiver_block(opened.receiver, samples, n, events, sizeof events / sizeof *events,
+                                 differences, sizeof differences / sizeof *differences);
     for (size_t i = 0; i < block.count; i++)
         put_event(events[i]);
     return block.number;

@@ -22,6 +22,7 @@ static unsigned char stack[1 << 20] __attribute__((aligned(4096)));
 static uint8_t message[CHARACTERS], text[1 << 16];
 static int16_t samples[SAMPLES], disturbance[SAMPLES], read_samples[1 << 16];
 static uint16_t events[MODEM_TAP_PLACES(SAMPLES)], indices[MODEM_EVENT_PLACES(SAMPLES)];
+static int64_t differences[MODEM_TAP_PLACES(SAMPLES)];
 static size_t text_bytes;
 static uint8_t refusals;
 
@@ -56,12 +57,14 @@ static void open_receiver(void)
 
 static void block(void)
 {
-    refusals |= modem_receiver_block(modem_receiver_open(1).receiver, samples, BLOCK, events, sizeof events / sizeof *events).number;
+    refusals |= modem_receiver_block(modem_receiver_open(1).receiver, samples, BLOCK, events, sizeof events / sizeof *events,
+                                     differences, sizeof differences / sizeof *differences).number;
 }
 
 static void block_indexed(void)
 {
     refusals |= modem_receiver_block_indexed(modem_receiver_open(1).receiver, samples, BLOCK, events, sizeof events / sizeof *events,
+                                             differences, sizeof differences / sizeof *differences,
                                              indices, sizeof indices / sizeof *indices).number;
 }
 
@@ -72,13 +75,15 @@ static void open_tap(void)
 
 static void tap_block(void)
 {
-    refusals |= modem_tap_block(modem_tap_open(1, 2).tap, samples, BLOCK, events, sizeof events / sizeof *events).number;
+    refusals |= modem_tap_block(modem_tap_open(1, 2).tap, samples, BLOCK, events, sizeof events / sizeof *events,
+                                differences, sizeof differences / sizeof *differences).number;
 }
 
 static void loopback(void)
 {
     refusals |= modem_loopback(1, message, CHARACTERS, disturbance, SAMPLES, BLOCK, samples, SAMPLES,
-                               events, sizeof events / sizeof *events).number;
+                               events, sizeof events / sizeof *events,
+                               differences, sizeof differences / sizeof *differences).number;
 }
 
 /* A sheet holds 37 characters at most. */

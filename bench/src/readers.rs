@@ -5,7 +5,7 @@
 use crate::clock::{self, Of};
 use crate::recording::Recording;
 use reference::library;
-use reference::receiver::{self, Answer, State, MOST_SAMPLES};
+use reference::receiver::{self, Answer, Lists, State, MOST_SAMPLES};
 use reference::sine::Sines;
 use reference::tap;
 use std::time::Duration;
@@ -32,15 +32,22 @@ struct Blocks<S, B> {
     size: usize,
 }
 
-impl<S, B: Fn(&mut S, &[i16], &mut [u16]) -> (u8, usize)> Blocks<S, B> {
-    /// Leaves the events in the list, one call's behind the other's, and
-    /// returns how many there are.
-    fn read_all(&self, band: u8, samples: &[i16], events: &mut [u16]) -> usize {
+impl<S, B: Fn(&mut S, &[i16], &mut [u16], &mut [i64]) -> (u8, usize)> Blocks<S, B> {
+    /// Leaves the events and their differences in the two lists, one call's behind the
+    /// other's, and returns how many there are.
+    fn read_all(
+        &self,
+        band: u8,
+        samples: &[i16],
+        events: &mut [u16],
+        differences: &mut [i64],
+    ) -> usize {
         let (number, mut state) = (self.open)(band);
         assert_eq!(number, 0);
         let mut count = 0;
         for samples in cut(samples, self.size) {
-            let (number, more) = (self.block)(&mut state, samples, &mut events[count..]);
+            let (events, differences) = (&mut events[count..], &mut differences[count..]);
+            let (number, more) = (self.block)(&mut state, samples, events, differences);
             assert_eq!(number, 0);
             count += more;
         }
@@ -54,18 +61,24 @@ fn cut(samples: &[i16], size: usize) -> impl Iterator<Item = &[i16]> {
     (0..blocks).map(move |i| &samples[i * size..samples.len().min((i + 1) * size)])
 }
 
-impl<S, B: Fn(&mut S, &[i16], &mut [u16]) -> (u8, usize)> Reader for Blocks<S, B> {
+impl<S, B: Fn(&mut S, &[i16], &mut [u16], &mut [i64]) -> (u8, usize)> Reader for Blocks<S, B> {
     /// The events must be those of the recording, so that no work is left out.
     fn read(&self, recording: &Recording) -> Reading {
         // The last call still gets as many places as a whole block needs, also from
         // a tap.
         let places = recording.events.len() + tap::places_needed(self.size);
         let mut events = vec![u16::MAX; places];
+        let mut differences = vec![-1; places];
         let (time, count) = clock::timed(Of::ThisProcess, || {
-            self.read_all(recording.band, &recording.samples, &mut events)
+            let Recording { band, samples, .. } = recording;
+            self.read_all(*band, samples, &mut events, &mut differences)
         });
         let events = &events[..count];
         assert!(events == recording.events, "the events are wrong");
+        let is_there = |&difference: &i64| difference >= 0;
+        let (told, rest) = differences.split_at(count);
+        let as_many = told.iter().all(is_there) && !rest.iter().any(is_there);
+        assert!(as_many, "the differences are not those of the events");
         let character = |&event: &u16| u8::try_from(event).ok();
         Reading {
             time,
@@ -77,8 +90,11 @@ impl<S, B: Fn(&mut S, &[i16], &mut [u16]) -> (u8, usize)> Reader for Blocks<S, B
 pub fn library(size: usize) -> impl Reader {
     Blocks {
         open: library::receiver_open,
-        block: |state: &mut library::Numbers, samples: &[i16], events: &mut [u16]| {
-            let answer = library::receiver_block(*state, samples, events);
+        block: |state: &mut library::Numbers,
+                samples: &[i16],
+                events: &mut [u16],
+                differences: &mut [i64]| {
+            let answer = library::receiver_block(*state, samples, events, differences);
             *state = answer.state;
             (answer.number, answer.count)
         },
@@ -90,8 +106,11 @@ pub fn library(size: usize) -> impl Reader {
 pub fn tap(size: usize) -> impl Reader {
     Blocks {
         open: |_| library::tap_open(1, 2),
-        block: |tap: &mut library::Tap, samples: &[i16], events: &mut [u16]| {
-            let answer = library::tap_block(*tap, samples, events);
+        block: |tap: &mut library::Tap,
+                samples: &[i16],
+                events: &mut [u16],
+                differences: &mut [i64]| {
+            let answer = library::tap_block(*tap, samples, events, differences);
             *tap = answer.state;
             (answer.number, answer.count)
         },
@@ -100,13 +119,16 @@ pub fn tap(size: usize) -> impl Reader {
 }
 
 /// A block call of the reference.
-pub type Block = fn(&Sines, State, &[i16], &mut [u16]) -> Answer;
+pub type Block = fn(&Sines, State, &[i16], Lists) -> Answer;
 
 pub fn reference(sines: &Sines, block: Block, size: usize) -> impl Reader + '_ {
     Blocks {
         open: receiver::open,
-        block: move |state: &mut State, samples: &[i16], events: &mut [u16]| {
-            let answer = block(sines, *state, samples, events);
+        block: move |state: &mut State,
+                     samples: &[i16],
+                     events: &mut [u16],
+                     differences: &mut [i64]| {
+            let answer = block(sines, *state, samples, Lists::new(events, differences));
             *state = answer.state;
             (answer.number, answer.count)
         },

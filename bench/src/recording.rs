@@ -1,7 +1,7 @@
 //! The recordings that are read.
 
 use reference::random::Random;
-use reference::receiver::{self, Answer, BREAK, LARGEST_SAMPLE, MOST_SAMPLES};
+use reference::receiver::{self, Answer, Lists, BREAK, LARGEST_SAMPLE, MOST_SAMPLES};
 use reference::sine::Sines;
 use reference::tap;
 use reference::transmitter::{self, STEPS};
@@ -95,8 +95,7 @@ impl Recording {
     pub fn tapped(&self, sines: &Sines) -> Recording {
         let samples = self.samples.clone();
         let (_, fresh) = tap::open(1, 2);
-        let block =
-            |state, samples: &[i16], events: &mut [u16]| tap::block(sines, state, samples, events);
+        let block = |state, samples: &[i16], lists: Lists| tap::block(sines, state, samples, lists);
         Recording {
             band: self.band,
             events: step_by_step(fresh, &samples, block),
@@ -108,9 +107,8 @@ impl Recording {
     /// These samples, which hold no message to count.
     pub fn of(sines: &Sines, band: u8, samples: Vec<i16>) -> Recording {
         let (_, fresh) = receiver::open(band);
-        let block = |state, samples: &[i16], events: &mut [u16]| {
-            receiver::block(sines, state, samples, events)
-        };
+        let block =
+            |state, samples: &[i16], lists: Lists| receiver::block(sines, state, samples, lists);
         Recording {
             band,
             events: step_by_step(fresh, &samples, block),
@@ -158,12 +156,13 @@ fn tone(sines: &Sines, band: u8, bit: usize, length: usize) -> Vec<i16> {
 fn step_by_step<S>(
     mut state: S,
     samples: &[i16],
-    block: impl Fn(S, &[i16], &mut [u16]) -> Answer<S>,
+    block: impl Fn(S, &[i16], Lists) -> Answer<S>,
 ) -> Vec<u16> {
     let mut places = vec![0; tap::places_needed(MOST_SAMPLES)];
+    let mut differences = vec![0; places.len()];
     let mut events = Vec::new();
     for samples in samples.chunks(MOST_SAMPLES) {
-        let answer = block(state, samples, &mut places);
+        let answer = block(state, samples, Lists::new(&mut places, &mut differences));
         assert_eq!(answer.number, 0);
         events.extend(&places[..answer.count]);
         state = answer.state;

@@ -5,9 +5,10 @@
 //! block's end asks for it. One of the three loops that `bench/` measures beside
 //! the library.
 
-use crate::in_place::{head, refusal, sum, Events, Weights, HEAD};
+use crate::in_place::{head, refusal, sum, Weights, HEAD};
 use crate::receiver::{
-    is_good, refused, taken, waiting, Answer, Stage, State, FULL_RUN, HALF_BIT, WINDOW,
+    carried, is_good, lowered, refused, taken, waiting, Answer, Event, Lists, Stage, State,
+    FULL_RUN, HALF_BIT, WINDOW,
 };
 use crate::sine::Sines;
 
@@ -75,17 +76,20 @@ struct Reading<'a> {
     since: usize,
     /// From this one to the next all have a good level.
     good_from: usize,
+    /// The smallest difference of the present character so far.
+    smallest: Option<i64>,
 }
 
 impl<'a> Reading<'a> {
-    fn new(windows: Windows<'a>, run: u8) -> Reading<'a> {
-        let since = FIRST - usize::from(run);
+    fn new(windows: Windows<'a>, state: &State) -> Reading<'a> {
+        let since = FIRST - usize::from(state.run);
         Reading {
             end: FIRST + windows.samples.len(),
             windows,
             next: FIRST,
             since,
             good_from: since,
+            smallest: state.smallest,
         }
     }
 
@@ -164,7 +168,7 @@ impl<'a> Reading<'a> {
     }
 
     /// Until the slot is taken, or to the end.
-    fn wait(&mut self, wait: u8, slot: u8, byte: u8) -> (Stage, Option<u16>) {
+    fn wait(&mut self, wait: u8, slot: u8, byte: u8) -> (Stage, Option<Event>) {
         let left = self.end - self.next;
         if usize::from(wait) > left {
             self.pass_all();
@@ -178,11 +182,15 @@ impl<'a> Reading<'a> {
         } else {
             self.pass_bad(window);
         }
-        taken(slot, byte, good, space, mark)
+        let smallest = lowered(slot, self.smallest, space, mark);
+        let (stage, number) = taken(slot, byte, good, space, mark);
+        let event;
+        (self.smallest, event) = carried(smallest, number);
+        (stage, event)
     }
 
     /// Reads all windows, and returns the last stage.
-    fn read(&mut self, mut stage: Stage, events: &mut Events) -> Stage {
+    fn read(&mut self, mut stage: Stage, lists: &mut Lists) -> Stage {
         while self.next < self.end {
             let event;
             (stage, event) = match stage {
@@ -190,27 +198,27 @@ impl<'a> Reading<'a> {
                 Stage::Waiting { wait, slot, byte } => self.wait(wait, slot, byte),
                 Stage::Held => (self.hold(), None),
             };
-            events.put(event);
+            lists.put(event);
         }
         stage
     }
 }
 
 /// The same as [`crate::receiver::block`].
-pub fn block(sines: &Sines, state: State, samples: &[i16], events: &mut [u16]) -> Answer {
-    if let Some(number) = refusal(&state, samples, events.len()) {
+pub fn block(sines: &Sines, state: State, samples: &[i16], mut lists: Lists) -> Answer {
+    if let Some(number) = refusal(&state, samples, lists.places()) {
         return refused(number, state);
     }
-    let mut events = Events::new(events);
-    let mut reading = Reading::new(Windows::new(sines, &state, samples), state.run);
-    let stage = reading.read(state.stage, &mut events);
+    let mut reading = Reading::new(Windows::new(sines, &state, samples), &state);
+    let stage = reading.read(state.stage, &mut lists);
     Answer {
         number: 0,
-        count: events.count,
+        count: lists.count,
         state: State {
             window: *reading.windows.at(reading.end - 1),
             run: reading.run(),
             stage,
+            smallest: reading.smallest,
             ..state
         },
     }

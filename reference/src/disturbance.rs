@@ -120,6 +120,11 @@ fn share([space, mark]: &[Energy; 2]) -> i128 {
     of(space, mark).min(of(mark, space))
 }
 
+/// By how much one energy is above the other for certain. Below 0 if none is.
+fn apart([space, mark]: &[Energy; 2]) -> i64 {
+    (space.least - mark.most).max(mark.least - space.most)
+}
+
 /// The level is good for certain.
 pub fn is_good([space, mark]: &[Energy; 2]) -> bool {
     space.least.max(mark.least) >= GOOD_ENERGY
@@ -179,6 +184,24 @@ pub fn largest_share(
     most: i16,
     [last, first]: [i64; 2],
 ) -> Option<i128> {
+    let windows = windows(sines, steps, most, [last, first]);
+    windows.iter().map(share).max()
+}
+
+/// The largest number that the difference of the two energies is never below in such a
+/// window, as far as the bounds show.
+pub fn least_difference(
+    sines: &Sines,
+    steps: [u16; 2],
+    most: i16,
+    [last, first]: [i64; 2],
+) -> Option<i64> {
+    let windows = windows(sines, steps, most, [last, first]);
+    windows.iter().map(apart).min()
+}
+
+/// The energies of all such windows.
+fn windows(sines: &Sines, steps: [u16; 2], most: i16, [last, first]: [i64; 2]) -> Vec<[Energy; 2]> {
     let sent = Sent {
         sines,
         steps,
@@ -191,9 +214,9 @@ pub fn largest_share(
             counts.map(move |count| (phase, bits, count))
         })
     });
-    let shares = windows
-        .map(|(phase, [earlier, later], count)| share(&sent.two(phase, earlier, later, count)));
-    shares.max()
+    let energies =
+        windows.map(|(phase, [earlier, later], count)| sent.two(phase, earlier, later, count));
+    energies.collect()
 }
 
 /// The windows of a sending.

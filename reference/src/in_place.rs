@@ -3,7 +3,7 @@
 //! library.
 
 use crate::receiver::{
-    decided, is_sample, places_needed, refused, Answer, Stage, State, MOST_SAMPLES, WINDOW,
+    is_sample, moved, places_needed, refused, Answer, Lists, Stage, State, MOST_SAMPLES, WINDOW,
 };
 use crate::sine::Sines;
 use crate::transmitter::STEPS;
@@ -57,39 +57,21 @@ pub(crate) fn refusal(state: &State, samples: &[i16], places: usize) -> Option<u
     }
 }
 
-/// The lent list, and how much of it is filled.
-pub(crate) struct Events<'a> {
-    places: &'a mut [u16],
-    pub(crate) count: usize,
-}
-
-impl<'a> Events<'a> {
-    pub(crate) fn new(places: &'a mut [u16]) -> Events<'a> {
-        Events { places, count: 0 }
-    }
-
-    #[inline(always)]
-    pub(crate) fn put(&mut self, event: Option<u16>) {
-        if let Some(event) = event {
-            self.places[self.count] = event;
-            self.count += 1;
-        }
-    }
-}
-
-/// Run, stage and events so far.
+/// Run, stage, smallest difference and events so far.
 pub(crate) struct Progress<'a> {
-    pub(crate) run: u8,
-    pub(crate) stage: Stage,
-    pub(crate) events: Events<'a>,
+    run: u8,
+    stage: Stage,
+    smallest: Option<i64>,
+    lists: Lists<'a>,
 }
 
 impl<'a> Progress<'a> {
-    pub(crate) fn new(state: &State, events: &'a mut [u16]) -> Progress<'a> {
+    pub(crate) fn new(state: &State, lists: Lists<'a>) -> Progress<'a> {
         Progress {
             run: state.run,
             stage: state.stage,
-            events: Events::new(events),
+            smallest: state.smallest,
+            lists,
         }
     }
 
@@ -99,8 +81,30 @@ impl<'a> Progress<'a> {
         let [space_i, space_q, mark_i, mark_q] = sums.map(|x| i64::from(x) * i64::from(x));
         let (space, mark) = (space_i + space_q, mark_i + mark_q);
         let event;
-        (self.run, self.stage, event) = decided(self.run, self.stage, space, mark);
-        self.events.put(event);
+        (self.run, self.stage, self.smallest, event) =
+            moved(self.run, self.stage, self.smallest, space, mark);
+        self.lists.put(event);
+    }
+
+    /// Behind the last sample, of a receiver of the band.
+    pub(crate) fn answer(self, band: u8, window: [i16; WINDOW]) -> Answer {
+        let Progress {
+            run,
+            stage,
+            smallest,
+            lists,
+        } = self;
+        Answer {
+            number: 0,
+            count: lists.count,
+            state: State {
+                band,
+                window,
+                run,
+                stage,
+                smallest,
+            },
+        }
     }
 }
 
@@ -120,12 +124,12 @@ pub(crate) fn head(window: &[i16; WINDOW], samples: &[i16]) -> [i16; HEAD] {
 }
 
 /// The same as [`crate::receiver::block`].
-pub fn block(sines: &Sines, state: State, samples: &[i16], events: &mut [u16]) -> Answer {
-    if let Some(number) = refusal(&state, samples, events.len()) {
+pub fn block(sines: &Sines, state: State, samples: &[i16], lists: Lists) -> Answer {
+    if let Some(number) = refusal(&state, samples, lists.places()) {
         return refused(number, state);
     }
     let weights = Weights::new(sines, state.band);
-    let mut progress = Progress::new(&state, events);
+    let mut progress = Progress::new(&state, lists);
     let head = head(&state.window, samples);
     let head = &head[..HEAD.min(WINDOW + samples.len())];
 
@@ -138,14 +142,5 @@ pub fn block(sines: &Sines, state: State, samples: &[i16], events: &mut [u16]) -
     }
 
     let last = samples.last_chunk().or(head.last_chunk());
-    Answer {
-        number: 0,
-        count: progress.events.count,
-        state: State {
-            window: *last.expect("the head holds a window"),
-            run: progress.run,
-            stage: progress.stage,
-            ..state
-        },
-    }
+    progress.answer(state.band, *last.expect("the head holds a window"))
 }

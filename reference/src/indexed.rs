@@ -1,6 +1,6 @@
 //! The receiver's block call that also tells with which sample each event came.
 
-use crate::receiver::{places_needed, refused, tested, Answer, State};
+use crate::receiver::{places_needed, refused, tested, Answer, Lists, State};
 use crate::sine::Sines;
 
 /// The same as [`crate::receiver::block`]. The index in the block of the sample that
@@ -9,13 +9,13 @@ pub fn block(
     sines: &Sines,
     state: State,
     samples: &[i16],
-    events: &mut [u16],
+    lists: Lists,
     indices: &mut [u16],
 ) -> Answer {
-    let shorter = events.len().min(indices.len());
-    let has_places = shorter >= places_needed(samples.len());
+    let shortest = lists.places().min(indices.len());
+    let has_places = shortest >= places_needed(samples.len());
     match tested(state.is_in_range(), samples, has_places) {
-        0 => read(sines, state, samples, events, indices),
+        0 => read(sines, state, samples, lists, indices),
         number => refused(number, state),
     }
 }
@@ -24,21 +24,20 @@ fn read(
     sines: &Sines,
     mut state: State,
     samples: &[i16],
-    events: &mut [u16],
+    mut lists: Lists,
     indices: &mut [u16],
 ) -> Answer {
     let tones = state.tones(sines);
-    let mut count = 0;
     for (index, &sample) in (0..).zip(samples) {
-        if let Some(event) = state.take(&tones, sample) {
-            events[count] = event;
-            indices[count] = index;
-            count += 1;
+        let event = state.take(&tones, sample);
+        if event.is_some() {
+            indices[lists.count] = index;
         }
+        lists.put(event);
     }
     Answer {
         number: 0,
-        count,
+        count: lists.count,
         state,
     }
 }

@@ -26,6 +26,8 @@ extern "C" {
         n: usize,
         events: *mut u16,
         places: usize,
+        differences: *mut i64,
+        difference_places: usize,
     ) -> BlockAnswer;
     fn modem_receiver_block_indexed(
         receiver: Numbers,
@@ -33,6 +35,8 @@ extern "C" {
         n: usize,
         events: *mut u16,
         places: usize,
+        differences: *mut i64,
+        difference_places: usize,
         indices: *mut u16,
         index_places: usize,
     ) -> BlockAnswer;
@@ -43,6 +47,8 @@ extern "C" {
         n: usize,
         events: *mut u16,
         places: usize,
+        differences: *mut i64,
+        difference_places: usize,
     ) -> BlockAnswer<Tap>;
     fn modem_message_send(
         band: u8,
@@ -62,6 +68,8 @@ extern "C" {
         sample_places: usize,
         events: *mut u16,
         event_places: usize,
+        differences: *mut i64,
+        difference_places: usize,
     ) -> CallAnswer;
     fn modem_sheet_read(text: *const u8, bytes: usize, samples: *mut i16, places: usize) -> Sheet;
     fn modem_sheet_write(
@@ -78,6 +86,8 @@ extern "C" {
         n: usize,
         events: *mut u16,
         places: usize,
+        differences: *mut i64,
+        difference_places: usize,
     ) -> BlockAnswer;
 }
 
@@ -127,7 +137,12 @@ pub fn receiver_open(band: u8) -> (u8, Numbers) {
     (opened.number, opened.receiver)
 }
 
-pub fn receiver_block(state: Numbers, samples: &[i16], events: &mut [u16]) -> BlockAnswer {
+pub fn receiver_block(
+    state: Numbers,
+    samples: &[i16],
+    events: &mut [u16],
+    differences: &mut [i64],
+) -> BlockAnswer {
     // SAFETY: the slices are borrowed for the call and apart, and each length is
     // that of the slice before it.
     unsafe {
@@ -137,12 +152,19 @@ pub fn receiver_block(state: Numbers, samples: &[i16], events: &mut [u16]) -> Bl
             samples.len(),
             events.as_mut_ptr(),
             events.len(),
+            differences.as_mut_ptr(),
+            differences.len(),
         )
     }
 }
 
 /// The same through the receiver's second entry.
-pub fn receiver_block_lent(state: Numbers, samples: &[i16], events: &mut [u16]) -> BlockAnswer {
+pub fn receiver_block_lent(
+    state: Numbers,
+    samples: &[i16],
+    events: &mut [u16],
+    differences: &mut [i64],
+) -> BlockAnswer {
     // SAFETY: as above.
     unsafe {
         modem_test_block_lent(
@@ -151,6 +173,8 @@ pub fn receiver_block_lent(state: Numbers, samples: &[i16], events: &mut [u16]) 
             samples.len(),
             events.as_mut_ptr(),
             events.len(),
+            differences.as_mut_ptr(),
+            differences.len(),
         )
     }
 }
@@ -160,6 +184,7 @@ pub fn receiver_block_indexed(
     state: Numbers,
     samples: &[i16],
     events: &mut [u16],
+    differences: &mut [i64],
     indices: &mut [u16],
 ) -> BlockAnswer {
     // SAFETY: the slices are borrowed for the call and apart, and each length is
@@ -171,6 +196,8 @@ pub fn receiver_block_indexed(
             samples.len(),
             events.as_mut_ptr(),
             events.len(),
+            differences.as_mut_ptr(),
+            differences.len(),
             indices.as_mut_ptr(),
             indices.len(),
         )
@@ -183,7 +210,12 @@ pub fn tap_open(first: u8, second: u8) -> (u8, Tap) {
     (opened.number, opened.tap)
 }
 
-pub fn tap_block(tap: Tap, samples: &[i16], events: &mut [u16]) -> BlockAnswer<Tap> {
+pub fn tap_block(
+    tap: Tap,
+    samples: &[i16],
+    events: &mut [u16],
+    differences: &mut [i64],
+) -> BlockAnswer<Tap> {
     // SAFETY: the slices are borrowed for the call and apart, and each length is
     // that of the slice before it.
     unsafe {
@@ -193,6 +225,8 @@ pub fn tap_block(tap: Tap, samples: &[i16], events: &mut [u16]) -> BlockAnswer<T
             samples.len(),
             events.as_mut_ptr(),
             events.len(),
+            differences.as_mut_ptr(),
+            differences.len(),
         )
     }
 }
@@ -218,6 +252,7 @@ pub fn loopback(
     block: usize,
     samples: &mut [i16],
     events: &mut [u16],
+    differences: &mut [i64],
 ) -> CallAnswer {
     // SAFETY: the slices are borrowed for the call and apart, and each length is
     // that of the slice before it.
@@ -233,6 +268,8 @@ pub fn loopback(
             samples.len(),
             events.as_mut_ptr(),
             events.len(),
+            differences.as_mut_ptr(),
+            differences.len(),
         )
     }
 }

@@ -1,7 +1,9 @@
 //! The programs of the specification: from the bytes of standard input to those of
 //! standard output.
 
-use crate::receiver::{self, places_needed, BREAK, CARRIER_LOST, DOUBT, MOST_SAMPLES, NO_STOP_BIT};
+use crate::receiver::{
+    self, places_needed, Lists, BREAK, CARRIER_LOST, DOUBT, MOST_SAMPLES, NO_STOP_BIT,
+};
 use crate::sheet::{self, MOST_BYTES};
 use crate::sine::Sines;
 use crate::transmitter::{self, Answer, CHARACTER_SAMPLES, MOST_CHARACTERS};
@@ -69,7 +71,9 @@ fn events_of(sines: &Sines, input: &[u8]) -> Result<Vec<u16>, u8> {
     let (number, fresh) = receiver::open(sheet.band);
     accepted(number)?;
     let mut events = vec![0; places_needed(samples.len())];
-    let answer = receiver::block(sines, fresh, &samples, &mut events);
+    let mut differences = vec![0; events.len()];
+    let lists = Lists::new(&mut events, &mut differences);
+    let answer = receiver::block(sines, fresh, &samples, lists);
     accepted(answer.number)?;
     events.truncate(answer.count);
     Ok(events)

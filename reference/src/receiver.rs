@@ -35,9 +35,20 @@ pub struct State {
     pub window: [i16; WINDOW],
     pub run: u8,
     pub stage: Stage,
+    /// The smallest difference of the two energies at the data slots of the present
+    /// character so far. There is none before the first of them is taken.
+    pub smallest: Option<i64>,
 }
 
-/// What a call returns besides the events it leaves in the lent list.
+/// A character or a fault, and beside it the smallest difference of the two energies at
+/// the data and stop slots of its character, up to and with the slot that brought it.
+#[derive(Clone, Copy, Debug, PartialEq, Eq)]
+pub struct Event {
+    pub number: u16,
+    pub difference: i64,
+}
+
+/// What a call returns besides the events it leaves in the lent lists.
 #[derive(Clone, Copy, Debug, PartialEq, Eq)]
 pub struct Answer<S = State> {
     pub number: u8,
@@ -52,6 +63,7 @@ pub fn open(band: u8) -> (u8, State) {
         window: [0; WINDOW],
         run: 0,
         stage: Stage::Searching,
+        smallest: None,
     };
     if is_band(band) {
         (0, fresh(band))
@@ -93,6 +105,16 @@ impl State {
             && self.window.iter().all(|&sample| is_sample(sample))
             && self.run <= FULL_RUN
             && self.stage.is_in_range()
+            && self.smallest_is_in_range()
+    }
+
+    /// It is there exactly while one of the slots 2 to 9 is waited for, and never negative.
+    fn smallest_is_in_range(&self) -> bool {
+        let is_due = matches!(self.stage, Stage::Waiting { slot, .. } if slot >= 2);
+        match self.smallest {
+            Some(difference) => is_due && difference >= 0,
+            None => !is_due,
+        }
     }
 
     /// Space and mark.
@@ -101,11 +123,43 @@ impl State {
     }
 }
 
-/// Reads a block and writes its events to the front of `events`.
-pub fn block(sines: &Sines, state: State, samples: &[i16], events: &mut [u16]) -> Answer {
-    let has_places = events.len() >= places_needed(samples.len());
+/// The two lent lists, and how much of them is filled: the number of an event goes to the
+/// one and its difference to the same place of the other.
+pub struct Lists<'a> {
+    numbers: &'a mut [u16],
+    differences: &'a mut [i64],
+    pub(crate) count: usize,
+}
+
+impl<'a> Lists<'a> {
+    pub fn new(numbers: &'a mut [u16], differences: &'a mut [i64]) -> Lists<'a> {
+        Lists {
+            numbers,
+            differences,
+            count: 0,
+        }
+    }
+
+    /// The length that is tested: that of the shorter.
+    pub(crate) fn places(&self) -> usize {
+        self.numbers.len().min(self.differences.len())
+    }
+
+    #[inline(always)]
+    pub(crate) fn put(&mut self, event: Option<Event>) {
+        if let Some(Event { number, difference }) = event {
+            self.numbers[self.count] = number;
+            self.differences[self.count] = difference;
+            self.count += 1;
+        }
+    }
+}
+
+/// Reads a block and writes its events to the front of the lists.
+pub fn block(sines: &Sines, state: State, samples: &[i16], lists: Lists) -> Answer {
+    let has_places = lists.places() >= places_needed(samples.len());
     match tested(state.is_in_range(), samples, has_places) {
-        0 => read(sines, state, samples, events),
+        0 => read(sines, state, samples, lists),
         number => refused(number, state),
     }
 }
@@ -133,18 +187,14 @@ pub(crate) fn refused<S>(number: u8, state: S) -> Answer<S> {
     }
 }
 
-fn read(sines: &Sines, mut state: State, samples: &[i16], events: &mut [u16]) -> Answer {
+fn read(sines: &Sines, mut state: State, samples: &[i16], mut lists: Lists) -> Answer {
     let tones = state.tones(sines);
-    let mut count = 0;
     for &sample in samples {
-        if let Some(event) = state.take(&tones, sample) {
-            events[count] = event;
-            count += 1;
-        }
+        lists.put(state.take(&tones, sample));
     }
     Answer {
         number: 0,
-        count,
+        count: lists.count,
         state,
     }
 }
@@ -183,7 +233,7 @@ fn weighed(window: &[i16; WINDOW], weights: &[i64; WINDOW]) -> i64 {
 
 impl State {
     /// Steps 1 to 5 for one sample.
-    pub(crate) fn take(&mut self, tones: &[Tone; 2], sample: i16) -> Option<u16> {
+    pub(crate) fn take(&mut self, tones: &[Tone; 2], sample: i16) -> Option<Event> {
         // 1. The sample enters and the oldest leaves.
         self.window.copy_within(1.., 0);
         self.window[WINDOW - 1] = sample;
@@ -193,9 +243,51 @@ impl State {
 
         // 3 to 5.
         let event;
-        (self.run, self.stage, event) = decided(self.run, self.stage, space, mark);
+        (self.run, self.stage, self.smallest, event) =
+            moved(self.run, self.stage, self.smallest, space, mark);
         event
     }
+}
+
+/// Steps 3 to 5 with the difference: the next run, stage and smallest difference, and the
+/// event if there is one.
+#[inline]
+pub(crate) fn moved(
+    run: u8,
+    stage: Stage,
+    smallest: Option<i64>,
+    space: i64,
+    mark: i64,
+) -> (u8, Stage, Option<i64>, Option<Event>) {
+    let smallest = match stage {
+        Stage::Waiting { wait: 1, slot, .. } => lowered(slot, smallest, space, mark),
+        _ => smallest,
+    };
+    let (run, stage, number) = decided(run, stage, space, mark);
+    let (smallest, event) = carried(smallest, number);
+    (run, stage, smallest, event)
+}
+
+/// The smallest difference when a slot is taken. The start slot has no part in it.
+#[inline]
+pub(crate) fn lowered(slot: u8, smallest: Option<i64>, space: i64, mark: i64) -> Option<i64> {
+    if slot == 0 {
+        return smallest;
+    }
+    // Larger minus smaller, of two numbers from 0 on.
+    let difference = space.max(mark) - space.min(mark);
+    Some(smallest.map_or(difference, |smallest| smallest.min(difference)))
+}
+
+/// An event takes the difference with it, so that the state has none, and otherwise the
+/// state keeps it.
+#[inline]
+pub(crate) fn carried(smallest: Option<i64>, number: Option<u16>) -> (Option<i64>, Option<Event>) {
+    let Some(number) = number else {
+        return (smallest, None);
+    };
+    let difference = smallest.expect("an event comes with a slot");
+    (None, Some(Event { number, difference }))
 }
 
 /// The level of step 3.
@@ -229,7 +321,7 @@ fn weighing(space: i64, mark: i64) -> Weighing {
 
 /// Steps 3 to 5: the next run and stage, and the event if there is one.
 #[inline]
-pub(crate) fn decided(run: u8, stage: Stage, space: i64, mark: i64) -> (u8, Stage, Option<u16>) {
+fn decided(run: u8, stage: Stage, space: i64, mark: i64) -> (u8, Stage, Option<u16>) {
     // 3. The level and the run.
     let good = is_good(space, mark);
     let run = if good { (run + 1).min(FULL_RUN) } else { 0 };

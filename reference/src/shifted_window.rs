@@ -3,7 +3,7 @@
 //! the library.
 
 use crate::in_place::{refusal, sum, Progress, Weights};
-use crate::receiver::{refused, Answer, State, WINDOW};
+use crate::receiver::{refused, Answer, Lists, State, WINDOW};
 use crate::sine::Sines;
 
 /// One sum to a call, which is quicker here than all four in one.
@@ -13,12 +13,12 @@ fn one_sum(window: &[i16; WINDOW], weights: &[i16; WINDOW]) -> i32 {
 }
 
 /// The same as [`crate::receiver::block`].
-pub fn block(sines: &Sines, state: State, samples: &[i16], events: &mut [u16]) -> Answer {
-    if let Some(number) = refusal(&state, samples, events.len()) {
+pub fn block(sines: &Sines, state: State, samples: &[i16], lists: Lists) -> Answer {
+    if let Some(number) = refusal(&state, samples, lists.places()) {
         return refused(number, state);
     }
     let weights = Weights::new(sines, state.band);
-    let mut progress = Progress::new(&state, events);
+    let mut progress = Progress::new(&state, lists);
     let mut window = state.window;
     for &sample in samples {
         window.copy_within(1.., 0);
@@ -29,14 +29,5 @@ pub fn block(sines: &Sines, state: State, samples: &[i16], events: &mut [u16]) -
             .map(|weights| one_sum(&window, weights));
         progress.advance(sums);
     }
-    Answer {
-        number: 0,
-        count: progress.events.count,
-        state: State {
-            window,
-            run: progress.run,
-            stage: progress.stage,
-            ..state
-        },
-    }
+    progress.answer(state.band, window)
 }

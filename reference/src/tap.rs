@@ -1,6 +1,6 @@
 //! The tap: the receivers of two bands that are fed the same block.
 
-use crate::receiver::{self, refused, tested, Answer};
+use crate::receiver::{self, refused, tested, Answer, Event, Lists};
 use crate::sine::Sines;
 use crate::transmitter::is_band;
 
@@ -43,34 +43,34 @@ impl State {
     }
 }
 
-/// Reads a block and writes the events of both bands to the front of `events`.
-pub fn block(sines: &Sines, tap: State, samples: &[i16], events: &mut [u16]) -> Answer<State> {
-    let has_places = events.len() >= places_needed(samples.len());
+/// Reads a block and writes the events of both bands to the front of the lists.
+pub fn block(sines: &Sines, tap: State, samples: &[i16], lists: Lists) -> Answer<State> {
+    let has_places = lists.places() >= places_needed(samples.len());
     match tested(tap.is_in_range(), samples, has_places) {
-        0 => read(sines, tap, samples, events),
+        0 => read(sines, tap, samples, lists),
         number => refused(number, tap),
     }
 }
 
 /// Each sample goes to the first receiver and then to the second.
-fn read(sines: &Sines, mut tap: State, samples: &[i16], events: &mut [u16]) -> Answer<State> {
+fn read(sines: &Sines, mut tap: State, samples: &[i16], mut lists: Lists) -> Answer<State> {
     let first_tones = tap.first.tones(sines);
     let second_tones = tap.second.tones(sines);
-    let mut count = 0;
     for &sample in samples {
         for (state, tones) in [
             (&mut tap.first, &first_tones),
             (&mut tap.second, &second_tones),
         ] {
-            if let Some(event) = state.take(tones, sample) {
-                events[count] = BAND * u16::from(state.band) + event;
-                count += 1;
-            }
+            let event = state.take(tones, sample);
+            lists.put(event.map(|event| Event {
+                number: BAND * u16::from(state.band) + event.number,
+                ..event
+            }));
         }
     }
     Answer {
         number: 0,
-        count,
+        count: lists.count,
         state: tap,
     }
 }

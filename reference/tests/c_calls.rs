@@ -24,6 +24,15 @@ fn events(list: &[u16]) -> String {
     format!("  events {}\n", sum(list))
 }
 
+fn differences(list: &[i64]) -> String {
+    format!("  differences {}\n", sum(list))
+}
+
+/// A list of differences with the fill that the C program has.
+fn filled(places: usize) -> Vec<i64> {
+    vec![0x7777_7777_7777_7777; places]
+}
+
 fn answer(call: &str, number: u8, count: usize) -> String {
     format!("{call}: {number} {count}\n")
 }
@@ -31,7 +40,8 @@ fn answer(call: &str, number: u8, count: usize) -> String {
 fn receiver(state: &Numbers) -> String {
     let [stage, wait, slot, byte] = state.stage_numbers();
     let Numbers { band, run, .. } = state;
-    let line = format!("  receiver {band} {run} {stage} {wait} {slot} {byte}\n");
+    let line = format!("  receiver {band} {run} {stage} {wait} {slot} {byte}");
+    let line = line + &format!(" {} {}\n", state.measured, state.smallest);
     line + &samples(&state.window)
 }
 
@@ -51,14 +61,21 @@ fn transmitter_calls(band: u8, fewer: usize) -> String {
     lines + &sent("characters", characters, &out)
 }
 
+/// One list is so much shorter, or the other.
+fn either(fewer: usize) -> [[usize; 2]; 2] {
+    [[fewer, 0], [0, fewer]]
+}
+
 fn receiver_calls(band: u8, block: &[i16], fewer: usize) -> String {
     let (number, mut state) = library::receiver_open(band);
     let mut lines = answer("receiver", number, 0) + &receiver(&state);
-    for _ in 0..2 {
-        let mut list = vec![0x7777; places_needed(block.len()) - fewer];
-        let found = library::receiver_block(state, block, &mut list);
+    let exact = places_needed(block.len());
+    for shorter in either(fewer) {
+        let mut list = vec![0x7777; exact - shorter[0]];
+        let mut beside = filled(exact - shorter[1]);
+        let found = library::receiver_block(state, block, &mut list, &mut beside);
         lines += &answer("block", found.number, found.count);
-        lines += &(receiver(&found.state) + &events(&list));
+        lines += &(receiver(&found.state) + &events(&list) + &differences(&beside));
         state = found.state;
     }
     lines
@@ -68,11 +85,15 @@ fn indexed_calls(band: u8, block: &[i16]) -> String {
     let (_, state) = library::receiver_open(band);
     let exact = places_needed(block.len());
     let mut lines = String::new();
-    for fewer in [[0, 0], [1, 0], [0, 1]] {
-        let [mut list, mut indices] = fewer.map(|fewer| vec![0x7777; exact - fewer]);
-        let found = library::receiver_block_indexed(state, block, &mut list, &mut indices);
+    for [fewer, fewer_differences, fewer_indices] in [[0, 0, 0], [1, 0, 0], [0, 1, 0], [0, 0, 1]] {
+        let [mut list, mut indices] =
+            [fewer, fewer_indices].map(|fewer| vec![0x7777; exact - fewer]);
+        let mut beside = filled(exact - fewer_differences);
+        let found =
+            library::receiver_block_indexed(state, block, &mut list, &mut beside, &mut indices);
         lines += &answer("indexed", found.number, found.count);
-        lines += &(receiver(&found.state) + &events(&list) + &events(&indices));
+        lines += &(receiver(&found.state) + &events(&list));
+        lines += &(differences(&beside) + &events(&indices));
     }
     lines
 }
@@ -90,12 +111,14 @@ fn tap_calls(pair: [u8; 2], fewer: usize) -> String {
     let [first, second] = pair.map(|band| sending(band, &BYTES));
     let line = mixed(&first, &second);
     let (mut lines, mut tap) = open_tap(pair);
-    for _ in 0..2 {
-        let mut list = vec![0x7777; 2 * places_needed(line.len()) - fewer];
-        let found = library::tap_block(tap, &line, &mut list);
+    let exact = 2 * places_needed(line.len());
+    for shorter in either(fewer) {
+        let mut list = vec![0x7777; exact - shorter[0]];
+        let mut beside = filled(exact - shorter[1]);
+        let found = library::tap_block(tap, &line, &mut list, &mut beside);
         tap = found.state;
         lines += &answer("tap", found.number, found.count);
-        lines += &(both(&tap) + &events(&list));
+        lines += &(both(&tap) + &events(&list) + &differences(&beside));
         if let Some(event) = list[..found.count].first() {
             lines += &format!("  band {} event {}\n", event / 1_000, event % 1_000);
         }
@@ -124,9 +147,10 @@ fn whole_calls(band: u8, fewer: usize) -> String {
     let sign = |place| if place % 3 == 0 { 100 } else { -100 };
     let added: Vec<i16> = (0..count).map(sign).collect();
     let mut list = vec![0x7777; BYTES.len()];
-    let found = library::loopback(band, &BYTES, &added, 100, &mut out, &mut list);
+    let mut beside = filled(BYTES.len());
+    let found = library::loopback(band, &BYTES, &added, 100, &mut out, &mut list, &mut beside);
     lines += &answer("loopback", found.number, found.count);
-    lines + &samples(&out) + &events(&list)
+    lines + &samples(&out) + &events(&list) + &differences(&beside)
 }
 
 fn expected() -> String {

@@ -73,7 +73,9 @@ fn layouts() -> Vec<Layout> {
                 stage: stage,
                 wait: wait,
                 slot: slot,
-                byte: byte
+                byte: byte,
+                measured: measured,
+                smallest: smallest
             }
         ),
         layout!(

@@ -2,8 +2,9 @@
 //! sample, whose window is made for the decision.
 
 use crate::common::doubtful::{edge, tie, BELOW, FIVE_TO_FOUR, ONE_LESS};
-use crate::common::receiver::{BREAK, DOUBT, WINDOW};
-use crate::common::states::{byte_limit, longest_wait, window_of, HELD};
+use crate::common::receiver::{guarded, BREAK, DOUBT, WINDOW};
+use crate::common::states::{byte_limit, longest_wait, window_of, with_stage, HELD};
+use crate::common::weighed::{assert_measured, lowered, Weighed};
 use crate::common::BANDS;
 use reference::library::{receiver_block, Numbers};
 use reference::receiver::{moved_by, Decision, State};
@@ -50,24 +51,22 @@ fn windows(band: u8) -> [([i16; WINDOW], [bool; 3]); 12] {
 /// Reads the last sample of a window from the state that has the others, and
 /// returns the event.
 fn check(
-    band: u8,
+    weighed: &Weighed,
     run: u8,
     stage: [u8; 4],
-    window: &[i16; WINDOW],
     [good, space, doubtful]: [bool; 3],
 ) -> Option<u16> {
+    let Weighed { band, window, .. } = *weighed;
     let mut before = [5; WINDOW];
     before[1..].copy_from_slice(&window[..WINDOW - 1]);
-    let [stage, wait, slot, byte] = stage;
+    let smallest = weighed.handed(stage, run);
     let handed = Numbers {
         band,
         window: before,
         run,
-        stage,
-        wait,
-        slot,
-        byte,
+        ..with_stage(stage).with_smallest(smallest)
     };
+    let smallest = lowered(stage, smallest, weighed.difference());
     let decision = Decision {
         good,
         space,
@@ -76,21 +75,21 @@ fn check(
     let (run, stage, event) = moved_by(run, State::from(handed).stage, decision);
     let next = State {
         band,
-        window: *window,
+        window,
         run,
         stage,
+        smallest: smallest.filter(|_| event.is_none()),
     };
-    let mut events = [9_999];
-    let found = receiver_block(handed, &window[WINDOW - 1..], &mut events);
-    let what = || format!("{handed:?}, {decision:?}");
-    assert_eq!(found.state, next.into(), "{}", what());
-    assert_eq!(
-        (found.number, found.count),
-        (0, usize::from(event.is_some())),
-        "{}",
-        what()
-    );
-    assert_eq!(events, [event.unwrap_or(9_999)], "{}", what());
+    let call = |samples: &[i16], events: &mut [u16], differences: &mut [i64]| {
+        receiver_block(handed, samples, events, differences)
+    };
+    let what = || format!("{decision:?}");
+    let found = guarded(call, handed, &window[WINDOW - 1..], [1, 1], what);
+    assert_eq!(found.answer.number, 0, "{handed:?}, {decision:?}");
+    assert_eq!(found.answer.state, next.into(), "{handed:?}, {decision:?}");
+    let expected: Vec<u16> = event.into_iter().collect();
+    assert_eq!(found.events(), expected, "{handed:?}, {decision:?}");
+    assert_measured(&found, smallest);
     event
 }
 
@@ -100,10 +99,11 @@ fn every_run_stage_and_decision() {
     let stages = stages();
     for band in BANDS {
         for (window, decision) in windows(band) {
+            let weighed = Weighed::new(band, window);
             for run in 0..=32 {
                 for &stage in &stages {
                     count += 1;
-                    let event = check(band, run, stage, &window, decision);
+                    let event = check(&weighed, run, stage, decision);
                     reported += usize::from(event.is_some());
                     breaks += usize::from(event == Some(BREAK));
                     doubts += usize::from(event == Some(DOUBT));

@@ -38,6 +38,14 @@ static void put_events(const uint16_t *list, size_t count)
     printf("  events %lu\n", sum);
 }
 
+static void put_differences(const int64_t *list, size_t count)
+{
+    unsigned long sum = 0;
+    for (size_t i = 0; i < count; i++)
+        sum = plus(sum, list[i]);
+    printf("  differences %lu\n", sum);
+}
+
 static void put_answer(const char *call, unsigned number, size_t count)
 {
     printf("%s: %u %zu\n", call, number, count);
@@ -45,7 +53,8 @@ static void put_answer(const char *call, unsigned number, size_t count)
 
 static void put_receiver(modem_receiver r)
 {
-    printf("  receiver %d %d %d %d %d %d\n", r.band, r.run, r.stage, r.wait, r.slot, r.byte);
+    printf("  receiver %d %d %d %d %d %d", r.band, r.run, r.stage, r.wait, r.slot, r.byte);
+    printf(" %d %lld\n", r.measured, (long long)r.smallest);
     put_samples(r.window, 32);
 }
 
@@ -71,38 +80,46 @@ static void transmitter_calls(uint8_t band, const uint8_t *bytes, size_t fewer)
     put_sent("characters", sent, out, all);
 }
 
-/* A block, and the same again from the state that it gave. */
+/* A block, and the same again from the state that it gave. At first the list of events is shorter, and then that of differences. */
 static void receiver_calls(uint8_t band, const int16_t *samples, size_t count, size_t fewer)
 {
     modem_receiver_opened opened = modem_receiver_open(band);
     modem_receiver receiver = opened.receiver;
-    size_t all = MODEM_EVENT_PLACES(count) - fewer;
     put_answer("receiver", opened.number, 0);
     put_receiver(receiver);
-    for (int i = 0; i < 2; i++) {
+    for (size_t i = 0; i < 2; i++) {
+        size_t all = MODEM_EVENT_PLACES(count) - (1 - i) * fewer, difference_places = MODEM_EVENT_PLACES(count) - i * fewer;
         uint16_t *events = places(all, sizeof *events);
-        modem_block block = modem_receiver_block(receiver, samples, count, events, all);
+        int64_t *differences = places(difference_places, sizeof *differences);
+        modem_block block = modem_receiver_block(receiver, samples, count, events, all, differences, difference_places);
         put_answer("block", block.number, block.count);
         put_receiver(block.receiver);
         put_events(events, all);
+        put_differences(differences, difference_places);
         free(events);
+        free(differences);
         receiver = block.receiver;
     }
 }
 
-/* Three times the same block: lists of exactly the places needed, and either list one place shorter. */
+/* Four times the same block: lists of exactly the places needed, and each list one place shorter. */
 static void indexed_calls(uint8_t band, const int16_t *samples, size_t count)
 {
     modem_receiver receiver = modem_receiver_open(band).receiver;
-    for (size_t i = 0; i < 3; i++) {
-        size_t all = MODEM_EVENT_PLACES(count) - (i == 1), index_places = MODEM_EVENT_PLACES(count) - (i == 2);
+    for (size_t i = 0; i < 4; i++) {
+        size_t exact = MODEM_EVENT_PLACES(count);
+        size_t all = exact - (i == 1), difference_places = exact - (i == 2), index_places = exact - (i == 3);
         uint16_t *events = places(all, sizeof *events), *indices = places(index_places, sizeof *indices);
-        modem_block block = modem_receiver_block_indexed(receiver, samples, count, events, all, indices, index_places);
+        int64_t *differences = places(difference_places, sizeof *differences);
+        modem_block block = modem_receiver_block_indexed(receiver, samples, count, events, all, differences, difference_places,
+                                                         indices, index_places);
         put_answer("indexed", block.number, block.count);
         put_receiver(block.receiver);
         put_events(events, all);
+        put_differences(differences, difference_places);
         put_events(indices, index_places);
         free(events);
+        free(differences);
         free(indices);
     }
 }
@@ -124,22 +141,26 @@ static modem_tap open_tap(uint8_t first, uint8_t second)
 /* Both bands on one line, read twice. */
 static void tap_calls(uint8_t first, uint8_t second, const uint8_t *bytes, size_t fewer)
 {
-    size_t count = MODEM_MESSAGE_SAMPLES(BYTES), all = MODEM_TAP_PLACES(count) - fewer;
+    size_t count = MODEM_MESSAGE_SAMPLES(BYTES);
     int16_t *line = places(count, sizeof *line), *other = places(count, sizeof *other);
     modem_tap tap = open_tap(first, second);
     modem_message_send(first, bytes, BYTES, line, count);
     modem_message_send(second, bytes, BYTES, other, count);
     for (size_t i = 0; i < count; i++)
         line[i] = (int16_t)((line[i] + other[i]) * 2 / 3);
-    for (int i = 0; i < 2; i++) {
+    for (size_t i = 0; i < 2; i++) {
+        size_t all = MODEM_TAP_PLACES(count) - (1 - i) * fewer, difference_places = MODEM_TAP_PLACES(count) - i * fewer;
         uint16_t *events = places(all, sizeof *events);
-        modem_tap_reading reading = modem_tap_block(tap, line, count, events, all);
+        int64_t *differences = places(difference_places, sizeof *differences);
+        modem_tap_reading reading = modem_tap_block(tap, line, count, events, all, differences, difference_places);
         put_answer("tap", reading.number, reading.count);
         put_tap(reading.tap);
         put_events(events, all);
+        put_differences(differences, difference_places);
         if (reading.count > 0)
             printf("  band %d event %d\n", MODEM_TAP_BAND(events[0]), MODEM_TAP_EVENT(events[0]));
         free(events);
+        free(differences);
         tap = reading.tap;
     }
     free(line);
@@ -170,6 +191,7 @@ static void whole_calls(uint8_t band, const uint8_t *bytes, size_t fewer)
     size_t count = MODEM_MESSAGE_SAMPLES(BYTES), all = count - fewer;
     int16_t *added = places(count, sizeof *added), *samples = places(all, sizeof *samples);
     uint16_t *events = places(BYTES, sizeof *events);
+    int64_t *differences = places(BYTES, sizeof *differences);
     modem_answer answer = modem_message_send(band, bytes, BYTES, samples, all);
     put_answer("message", answer.number, answer.count);
     put_samples(samples, all);
@@ -178,13 +200,15 @@ static void whole_calls(uint8_t band, const uint8_t *bytes, size_t fewer)
     sheet_calls(band, samples, all, fewer);
     for (size_t i = 0; i < count; i++)
         added[i] = i % 3 == 0 ? MODEM_DISTURBANCE : -MODEM_DISTURBANCE;
-    answer = modem_loopback(band, bytes, BYTES, added, count, 100, samples, all, events, BYTES);
+    answer = modem_loopback(band, bytes, BYTES, added, count, 100, samples, all, events, BYTES, differences, BYTES);
     put_answer("loopback", answer.number, answer.count);
     put_samples(samples, all);
     put_events(events, BYTES);
+    put_differences(differences, BYTES);
     free(added);
     free(samples);
     free(events);
+    free(differences);
 }
 
 int main(void)

@@ -85,8 +85,10 @@ fn the_largest_block() {
 /// it is the last.
 fn check_samples(state: Numbers, samples: &[i16]) -> Vec<u16> {
     let found = compare_accepted(state, samples);
-    let mut events = vec![0; samples.len() / 48 + 1];
-    let mut told = |count| receiver_block(state, &samples[..count], &mut events).count;
+    let places = samples.len() / 48 + 1;
+    let (mut events, mut differences) = (vec![0; places], vec![0; places]);
+    let mut told =
+        |count| receiver_block(state, &samples[..count], &mut events, &mut differences).count;
     for (place, &index) in found.indices().iter().enumerate() {
         let index = usize::from(index);
         let counts = [told(index), told(index + 1)];

@@ -1,6 +1,6 @@
 //! Blocks that are refused by the receiver's call with indices.
 
-use crate::common::indexed::{compare_lists, Indexed};
+use crate::common::indexed::{compare_three, Indexed};
 use crate::common::receiver::{fresh, BlockState};
 use crate::common::refused::{
     bad_samples, first_condition_counts, other_forms, refused_blocks, refused_with, samples,
@@ -23,28 +23,27 @@ fn every_list_that_is_too_short_is_refused_with_4() {
     }
 }
 
-/// Either list alone is too short, or both are, or neither.
+/// Each list alone is too short, or two of them, or all, or none.
 #[test]
-fn every_pair_of_lengths() {
+fn every_three_lengths() {
     for count in [0, 1, 47, 48, 95, 96, 160, 1_000] {
         let samples = samples(count, &[]);
         let exact = count / 48 + 1;
         let lengths = [0, 1, exact - 1, exact, exact + 1, exact + 50];
+        let pairs = lengths.map(|first| lengths.map(|second| [first, second]));
         let mut seen = [0; 5];
-        for events in lengths {
+        for [events, differences] in pairs.concat() {
             for indices in lengths {
-                let found = compare_lists(fresh(1), &samples, [events, indices]);
-                let expected = if events < exact || indices < exact {
-                    4
-                } else {
-                    0
-                };
+                let lengths = [events, differences, indices];
+                let found = compare_three(fresh(1), &samples, lengths);
+                let is_short = lengths.iter().any(|&length| length < exact);
+                let expected = if is_short { 4 } else { 0 };
                 let number = found.reading.answer.number;
-                assert_eq!(number, expected, "{count} samples into {events}, {indices}");
+                assert_eq!(number, expected, "{count} samples into {lengths:?}");
                 seen[usize::from(number)] += 1;
             }
         }
-        assert!(seen[0] >= 9 && seen[4] >= 11, "{seen:?}");
+        assert!(seen[0] >= 27 && seen[4] >= 91, "{seen:?}");
     }
 }
 

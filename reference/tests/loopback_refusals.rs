@@ -13,7 +13,8 @@ struct Made {
     /// A number of the disturbance, and its place.
     bad: Option<(usize, i16)>,
     numbers: usize,
-    places: [usize; 2],
+    /// For samples, events and differences.
+    places: [usize; 3],
 }
 
 /// An accepted call with so many bytes, into exactly the places needed.
@@ -25,7 +26,7 @@ fn accepted(bytes: usize) -> Made {
         block: 320,
         bad: None,
         numbers: samples,
-        places: [samples, bytes],
+        places: [samples, bytes, bytes],
     }
 }
 
@@ -41,7 +42,7 @@ impl Made {
             added: &added,
             block: self.block,
         };
-        let (answer, _, _) = call.make(self.places);
+        let answer = call.make(self.places).answer;
         let count = if answer.number == 0 { self.bytes } else { 0 };
         assert_eq!(answer.count, count, "{self:?}");
         answer.number
@@ -51,7 +52,7 @@ impl Made {
 type Change = (u8, fn(&mut Made));
 
 /// Changes that are refused, each with its number, in the order of the call.
-fn changes() -> [Change; 15] {
+fn changes() -> [Change; 18] {
     [
         (1, |made| made.band = 0),
         (1, |made| made.band = NO_BAND),
@@ -71,7 +72,10 @@ fn changes() -> [Change; 15] {
         (4, |made| made.numbers -= 1),
         (4, |made| made.places[0] -= 1),
         (4, |made| made.places[1] -= 1),
-        (4, |made| made.places = [0, 0]),
+        (4, |made| made.places[2] -= 1),
+        (4, |made| made.places[1] = 0),
+        (4, |made| made.places[2] = 0),
+        (4, |made| made.places = [0; 3]),
     ]
 }
 
@@ -117,13 +121,29 @@ fn too_many_bytes() {
     }
 }
 
+/// Either list of events is too short, or both are, or neither.
+#[test]
+fn every_two_lengths() {
+    for bytes in [1, 3, 100] {
+        let lengths = [0, 1, bytes - 1, bytes, bytes + 1, bytes + 50];
+        for events in lengths {
+            for differences in lengths {
+                let mut made = accepted(bytes);
+                made.places[1..].copy_from_slice(&[events, differences]);
+                let is_short = events.min(differences) < bytes;
+                assert_eq!(made.number(), if is_short { 4 } else { 0 }, "{made:?}");
+            }
+        }
+    }
+}
+
 /// An empty message needs its leader and trailer, and no place for events.
 #[test]
 fn no_bytes() {
     assert_eq!(accepted(0).number(), 0);
     for places in [0, 1, 191] {
         let short = Made {
-            places: [places, 0],
+            places: [places, 0, 0],
             ..accepted(0)
         };
         assert_eq!(short.number(), 4);

@@ -1,7 +1,8 @@
 //! Messages sent, disturbed and read back in one call.
 
 use crate::common::disturbances::largest;
-use crate::common::loopback::Call;
+use crate::common::loopback::{Call, Looped};
+use crate::common::receiver::{fresh, measured_on, numbers};
 use crate::common::recording::{as_events, disturbed, noise, sending};
 use crate::common::{assert_places, BANDS};
 use reference::disturbance::MOST;
@@ -12,7 +13,8 @@ use reference::random::Random;
 const BLOCKS: [usize; 4] = [1, 31, 320, 16_384];
 
 /// The samples left must be the reference's, each with its number added, and the
-/// events the message. There are `more` numbers and places than are needed.
+/// events the message, with the differences that a receiver gives of these samples.
+/// There are `more` numbers and places than are needed, of events or of differences.
 fn check(band: u8, message: &[u8], added: &[i16], block: usize, more: usize) {
     let expected = disturbed(&sending(band, message), |place| added[place]);
     let call = Call {
@@ -21,7 +23,13 @@ fn check(band: u8, message: &[u8], added: &[i16], block: usize, more: usize) {
         added,
         block,
     };
-    let (answer, samples, events) = call.make([expected.len() + more, message.len() + more]);
+    let [events, differences] = [[more, 0], [0, more]][block % 2];
+    let lists = [events, differences].map(|more| message.len() + more);
+    let Looped {
+        answer,
+        samples,
+        events,
+    } = call.make([expected.len() + more, lists[0], lists[1]]);
     let what = || call.told();
     assert_eq!(
         (answer.number, answer.count),
@@ -30,7 +38,9 @@ fn check(band: u8, message: &[u8], added: &[i16], block: usize, more: usize) {
         what()
     );
     assert_places(&samples, &expected, what);
-    assert_eq!(events, as_events(message), "{}", what());
+    assert_eq!(numbers(&events), as_events(message), "{}", what());
+    let (measured, _) = measured_on(fresh(band), expected.chunks(16_384));
+    assert_eq!(events, measured, "{}", what());
 }
 
 #[test]

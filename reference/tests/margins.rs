@@ -2,7 +2,9 @@
 //! close its limits are.
 
 use crate::common::sines;
-use reference::disturbance::{beginnings, largest_share, margins, Limits, CLEAR, LIMITS, MOST};
+use reference::disturbance::{
+    beginnings, largest_share, least_difference, margins, Limits, CLEAR, LIMITS, MOST,
+};
 use reference::transmitter::STEPS;
 
 /// Of each band the phase between the beginnings of bits, and the largest
@@ -99,4 +101,38 @@ fn where_there_is_no_doubt() {
     assert_eq!(doubtful(MOST, CLEAR), []);
     assert_eq!(doubtful(MOST, [last + 1, first]), [1, 3]);
     assert_eq!(doubtful(MOST, [last, first - 1]), [1, 3]);
+}
+
+/// What no difference at a slot is below.
+const LEAST: i64 = 200_000_000_000_000_000;
+
+/// Of each band, what the bounds show of the difference in the window of a slot.
+fn differences(most: i16) -> [i64; EXPECTED.len()] {
+    EXPECTED.map(|(band, ..)| {
+        let found = least_difference(sines(), steps(band), most, SLOTS);
+        found.expect("there are windows")
+    })
+}
+
+/// It is the largest number of one digit and zeros that is shown in all four bands.
+#[test]
+fn how_far_apart_the_energies_are_at_slots() {
+    let found = differences(MOST);
+    let expected = [
+        208_497_600_419_689_251,
+        219_495_945_029_547_944,
+        204_387_357_949_620_764,
+        221_608_263_537_025_295,
+    ];
+    assert_eq!(found, expected);
+    assert!(found.iter().all(|&difference| difference >= LEAST));
+    assert!(found.iter().any(|&difference| difference < LEAST / 2 * 3));
+}
+
+/// A larger disturbance brings it below this, in some band first.
+#[test]
+fn how_much_more_the_differences_bear() {
+    let below = |most| differences(most).map(|difference| difference < LEAST);
+    assert_eq!(below(MOST + 5), [false; 4]);
+    assert_eq!(below(MOST + 20), [false, false, true, false]);
 }

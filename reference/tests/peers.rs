@@ -1,7 +1,7 @@
 //! The receivers written for speed answer as the step-by-step one does.
 
 use crate::common::met::kinds;
-use crate::common::receiver::{assert_events, fresh, guarded, in_numbers};
+use crate::common::receiver::{assert_events, assert_same, fresh, guarded, in_numbers, uneven};
 use crate::common::recording::{
     around_0, as_events, disturbed, every_character, sending, sending_of, surrounded, Item,
 };
@@ -9,11 +9,11 @@ use crate::common::states::{any_block, good_state, hostile_state};
 use crate::common::BANDS;
 use reference::library::Numbers;
 use reference::random::Random;
-use reference::receiver::{places_needed, Answer, State};
+use reference::receiver::{places_needed, Answer, Lists, State};
 use reference::sine::Sines;
 use reference::{asked_windows, in_place, receiver, shifted_window};
 
-type Block = fn(&Sines, State, &[i16], &mut [u16]) -> Answer;
+type Block = fn(&Sines, State, &[i16], Lists) -> Answer;
 
 const PEERS: [(&str, Block); 3] = [
     ("in-place", in_place::block),
@@ -24,15 +24,17 @@ const PEERS: [(&str, Block); 3] = [
 /// Each peer's answer must be the step-by-step one's, in every place. Returns
 /// the number, the events and the next state.
 fn compare(state: Numbers, samples: &[i16], places: usize) -> (u8, Vec<u16>, Numbers) {
+    let lengths = uneven(samples, places);
     let read = |block: Block, who: &str| {
-        let call = |samples: &[i16], events: &mut [u16]| in_numbers(block, state, samples, events);
-        guarded(call, state, samples, places, || who.to_string())
+        let call = |samples: &[i16], events: &mut [u16], differences: &mut [i64]| {
+            in_numbers(block, state, samples, events, differences)
+        };
+        guarded(call, state, samples, lengths, || who.to_string())
     };
     let expected = read(receiver::block, "step by step");
     for (who, block) in PEERS {
         let found = read(block, who);
-        assert_eq!(found.answer, expected.answer, "{who}");
-        assert_eq!(found.places, expected.places, "{who}");
+        assert_same(&found, &expected, || who.to_string());
     }
     let answer = expected.answer;
     (answer.number, expected.events().to_vec(), answer.state)

@@ -7,7 +7,7 @@ use crate::common::{sines, BANDS};
 use reference::disturbance::{is_good, winner, Pair, LIMITS, MOST};
 use reference::picture;
 use reference::random::Random;
-use reference::receiver;
+use reference::receiver::{self, Lists};
 use reference::transmitter::{characters, State, STEPS};
 use std::fs;
 use std::ops::RangeInclusive;
@@ -73,7 +73,7 @@ fn event_places(band: u8, recording: &[i16]) -> Vec<usize> {
     let (_, mut state) = receiver::open(band);
     let mut places = Vec::new();
     for (place, sample) in recording.iter().enumerate() {
-        let answer = receiver::block(sines(), state, &[*sample], &mut [0]);
+        let answer = receiver::block(sines(), state, &[*sample], Lists::new(&mut [0], &mut [0]));
         assert_eq!(answer.number, 0);
         places.extend((answer.count > 0).then_some(place));
         state = answer.state;

@@ -1,6 +1,6 @@
 //! The library's two entries in turn, one chosen at random for each call.
 
-use crate::common::receiver::{assert_events, compare_through, fresh, read_on, ENTRIES};
+use crate::common::receiver::{assert_events, compare_through, fresh, read_on, uneven, ENTRIES};
 use crate::common::recording::{
     around_0, as_events, disturbed, every_character, sending, surrounded,
 };
@@ -70,7 +70,8 @@ fn a_row_of_calls() {
             };
             let (samples, places) = any_block(&mut random, handed.band);
             let chosen = random.below(2);
-            let [reading] = compare_through([ENTRIES[chosen]], handed, &samples, places);
+            let lengths = uneven(&samples, places);
+            let [reading] = compare_through([ENTRIES[chosen]], handed, &samples, lengths);
             seen[chosen][usize::from(reading.answer.number)] += 1;
             if !hostile {
                 state = reading.answer.state;

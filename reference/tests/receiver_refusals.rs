@@ -74,14 +74,18 @@ fn other_forms_of_a_held_break() {
 }
 
 /// There are the stages 0, 1 and 2 alone. Any other is refused with 2, before all
-/// else, and handed back as it is, though as a wait it would be in range.
+/// else, and handed back as it is, though as a wait it would be in range, with a difference
+/// or without one.
 #[test]
 fn other_numbers_of_a_stage() {
     let blocks = refused_blocks::<Numbers>();
     for stage in 3..=255 {
         for rest in [[0, 0, 0], [16, 0, 0], [32, 9, 255], [1, 2, 1]] {
             let [wait, slot, byte] = rest;
-            refused_with(2, with_stage([stage, wait, slot, byte]), &[], 1);
+            let state = with_stage([stage, wait, slot, byte]);
+            for smallest in [None, Some(1)] {
+                refused_with(2, state.with_smallest(smallest), &[], 1);
+            }
         }
         for (samples, places, _) in &blocks {
             refused_with(2, with_stage([stage, 16, 0, 0]), samples, *places);

@@ -3,7 +3,9 @@
 use crate::common::receiver::{
     compare_accepted, BREAK, CARRIER_LOST, DOUBT, EVENTS, FRESH, NO_STOP_BIT, WINDOW,
 };
-use crate::common::states::{any_samples, byte_limit, good_state, longest_wait, window_of};
+use crate::common::states::{
+    any_samples, byte_limit, good_state, longest_wait, window_of, with_stage,
+};
 use crate::common::BANDS;
 use reference::library::Numbers;
 use reference::random::Random;
@@ -30,10 +32,7 @@ fn every_slot_and_wait() {
                                 band,
                                 window,
                                 run: random.below(33) as u8,
-                                stage: 1,
-                                wait,
-                                slot,
-                                byte: byte as u8,
+                                ..with_stage([1, wait, slot, byte as u8])
                             };
                             let samples = tone.repeat(2);
                             let size = random.below(samples.len() + 1);
@@ -105,8 +104,8 @@ fn random_states() {
         let (head, tail) = samples.split_at(random.below(size + 1));
         let first = compare_accepted(state, head);
         let second = compare_accepted(first.answer.state, tail);
-        let joined = [first.events(), second.events()].concat();
-        assert_eq!(whole.events(), joined, "{state:?}");
+        let joined = [first.measured(), second.measured()].concat();
+        assert_eq!(whole.measured(), joined, "{state:?}");
         assert_eq!(whole.answer.state, second.answer.state, "{state:?}");
         for &event in whole.events() {
             seen[usize::from(event)] += 1;

@@ -4,20 +4,21 @@
 use crate::common::doubtful::tie;
 use crate::common::indexed::compare_accepted as located;
 use crate::common::receiver::{
-    compare_accepted, fresh, BREAK, CARRIER_LOST, DOUBT, NO_STOP_BIT, WINDOW,
+    compare_accepted, Event, BREAK, CARRIER_LOST, DOUBT, NO_STOP_BIT, WINDOW,
 };
 use crate::common::recording::{keyed, mixed, sending};
-use crate::common::states::{byte_limit, window_of};
+use crate::common::states::{byte_limit, window_of, with_stage};
 use crate::common::tap::{any_line, good_tap_of, of_tap, open, tapped, PAIRS};
 use reference::library::{Numbers, Tap};
 use reference::random::Random;
 
 /// A receiver that waits: for so many samples, for a slot, with a byte.
 fn waiting(band: u8, window: [i16; WINDOW], [wait, slot, byte]: [u8; 3]) -> Numbers {
-    Numbers {
+    let state = Numbers {
         window,
-        ..fresh(band).with_stage([1, wait, slot, byte])
-    }
+        ..with_stage([1, wait, slot, byte])
+    };
+    Numbers { band, ..state }
 }
 
 /// The events of either band, as the tap tells them.
@@ -102,14 +103,18 @@ fn about_to_tell(band: u8, byte: u8, kind: usize) -> (Numbers, u16) {
     (waiting(band, window, [1, 9, byte]), event)
 }
 
-/// Two events by one sample, of these kinds, with every byte.
+/// Two events by one sample, of these kinds, with every byte. Each has the difference of
+/// its own receiver: what it was before, or at a lost carrier that of silence.
 fn two_events(pair: [u8; 2], kinds: [usize; 2]) {
     for byte in 0..=255 {
         let (one, first) = about_to_tell(pair[0], byte, kinds[0]);
         let (other, second) = about_to_tell(pair[1], 255 - byte, kinds[1]);
+        let states = [one.with_smallest(Some(1)), other.with_smallest(Some(2))];
+        let differences = [0, 1].map(|place| if kinds[place] == 2 { 0 } else { [1, 2][place] });
         for samples in [&[0][..], &[0; 40]] {
-            let reading = compare_accepted(tapped(one, other), samples);
+            let reading = compare_accepted(tapped(states[0], states[1]), samples);
             assert_eq!(reading.events(), told(pair, [first, second]), "{byte}");
+            assert_eq!(reading.differences(), differences, "{byte}");
         }
     }
 }
@@ -126,22 +131,23 @@ fn two_events_of_every_kind() {
     }
 }
 
-/// The events of either receiver with their samples, put in order: by the sample, and
-/// of one sample by the band. They must be those of the tap. Returns how many samples
-/// have two.
+/// The events of either receiver with their samples and differences, put in order: by the
+/// sample, and of one sample by the band. They must be those of the tap. Returns how many
+/// samples have two.
 fn put_together(tap: Tap, samples: &[i16]) -> usize {
     let mut all = Vec::new();
     for state in [tap.first, tap.second] {
         let alone = located(state, samples);
         let events = of_tap(state.band, alone.reading.events());
+        let events = events.into_iter().zip(alone.reading.differences().to_vec());
         let indices = alone.indices().iter().copied();
         all.extend(indices.zip(events));
     }
     // An event of the lower band is below one of the other.
     all.sort();
-    let expected: Vec<u16> = all.iter().map(|&(_, event)| event).collect();
+    let expected: Vec<Event> = all.iter().map(|&(_, event)| event).collect();
     let reading = compare_accepted(tap, samples);
-    assert_eq!(reading.events(), expected, "{tap:?}");
+    assert_eq!(reading.measured(), expected, "{tap:?}");
     all.windows(2).filter(|pair| pair[0].0 == pair[1].0).count()
 }
 

@@ -1,7 +1,7 @@
 //! Blocks that a tap reads on from any state in range.
 
 use crate::common::met::assert_frequent;
-use crate::common::receiver::{compare_accepted, read_on, WINDOW};
+use crate::common::receiver::{compare_accepted, measured_on, numbers, WINDOW};
 use crate::common::tap::{any_line, good_tap_of, kinds_of, tapped, PAIRS};
 use reference::random::Random;
 
@@ -11,16 +11,16 @@ fn random_states() {
     let mut random = Random::new(98);
     for pair in PAIRS {
         let mut met = Vec::new();
-        for _ in 0..7_000 {
+        for _ in 0..10_000 {
             let tap = good_tap_of(&mut random, pair);
             let size = random.below(300);
             let line = any_line(&mut random, pair, size);
             let whole = compare_accepted(tap, &line);
             let (head, tail) = line.split_at(random.below(size + 1));
-            let (events, last) = read_on(tap, [head, tail]);
-            assert_eq!(whole.events(), events, "{tap:?}");
+            let (events, last) = measured_on(tap, [head, tail]);
+            assert_eq!(whole.measured(), events, "{tap:?}");
             assert_eq!(whole.answer.state, last, "{tap:?}");
-            met.extend(events);
+            met.extend(numbers(&events));
         }
         for kinds in kinds_of(pair, &met) {
             assert_frequent(kinds, [100, 100, 100, 3, 100]);

@@ -5,7 +5,7 @@ use mathlib.Core.Bool.{true, false}
 use mathlib.Core.List.{List, [], _∷_, _++_}
 use Prim.Native.Nat.{ℕ}
 use native.Mathlib.Omega.{arith}
-use lib.IntN.{ℤ}
+use lib.IntN.{ℤ, pos}
 use lib.ListN.{take, drop}
 use Rattle.integers.specs.Near.{Near}
 use Rattle.integers.proofs.Near.{near-self}
@@ -28,11 +28,15 @@ use Rattle.control.specs.Rules.{breakBegun, numbers, quiet, holdBreak, runAfter
 use Rattle.control.proofs.Rules.{control-after, events-reported, held-on, wait-taken, stop-break}
 use Rattle.control.proofs.Ranges.{control-stage}
 use Rattle.control.proofs.Events.{break-only}
+use Rattle.quality.specs.declared.Difference.the-variants.{Of}
+use Rattle.quality.specs.Quality.{isKept}
 use Rattle.receiver.specs.declared.Receiver.{Receiver}
+use Rattle.receiver.specs.Energy.{decisionOf}
 use Rattle.receiver.specs.Step.{controlOf, entered, decisionAt, afterSample, eventsAt, stateAfter, eventsAfter}
 use Rattle.receiver.specs.Lists.{Call, samplesRead}
 use Rattle.receiver.proofs.Ranges.{in-range, from-ranges}
 use Rattle.receiver.proofs.Lists.{one-reading}
+use Rattle.receiver.proofs.Windows.{control-sample}
 use Rattle.margin.specs.Windows.{disturbance, phaseAfterBit, across, Margins}
 use Rattle.margin.proofs.Bands.{margins}
 use Rattle.breaks.specs.Held.{BeginsBreak, ToldExactly, SomeBreak, endedBy, NoneEnds, HeldOver, HeldOverCalls, EndsInBreak, OneEvent}
@@ -44,8 +48,7 @@ module _ (s : Receiver) (x : ℤ) (n : Next) (e : nextOf (s .stage) (runAfter (s
   run = runAfter (s .run) (decisionAt s x .good)
 
   stage-after : afterSample s x .stage ≡ n .stage
-  unfolding afterSample
-  stage-after = ap (λ (c : Control). c .stage) (control-after (controlOf s) (decisionAt s x) run n refl (sym e))
+  stage-after = ap (λ (c : Control). c .stage) (control-sample s x ∙ control-after (controlOf s) (decisionAt s x) run n refl (sym e))
 
   events-with : eventsAt s x ≡ numbers (n .event)
   unfolding eventsAt
@@ -131,7 +134,7 @@ module _ (band : ℕ) (known : isBand band ≡ true) where
   tones = tonesOf band
 
   abbrev state : Receiver
-  state = record { band = band; window = wave 32 (tones .space) 0; run = 32; stage = Waiting 1 9 0 }
+  state = record { band = band; window = wave 32 (tones .space) 0; run = 32; stage = Waiting 1 9 0; smallest = Of (pos 0) }
 
   abbrev sample : ℤ
   sample = S (phaseAfterBit tones 0 0)
@@ -145,14 +148,14 @@ module _ (band : ℕ) (known : isBand band ≡ true) where
   near = rw space-window (near-self (entered (state .window) sample))
 
   pub some-break : SomeBreak band
-  unfolding isControl isStage isSlot
+  unfolding isControl isStage isSlot isKept
   some-break =
-      let M : Margins disturbance tones = margins band in
+      let M : Margins disturbance tones (decisionOf tones) = margins band in
       record {
         state = state;
         sample = sample;
         in-band = refl;
-        in-range = from-ranges state (record { band = known; window = bounded-samples (state .window) (omega arith) (wave-bound 32 (tones .space) 0); control = refl });
+        in-range = from-ranges state (record { band = known; window = bounded-samples (state .window) (omega arith) (wave-bound 32 (tones .space) 0); control = refl; kept = refl });
         begins =
             record {
               stop = refl;

@@ -14,8 +14,10 @@ use Rattle.tones.specs.declared.Tones.{Tones}
 use Rattle.tones.specs.Bands.{tonesOf}
 use Rattle.transmitter.specs.Samples.{sendBits, idleBits, bitSteps}
 use Rattle.transmitter.proofs.Laws.{send-bound}
+use Rattle.control.specs.declared.Decision.{Decision}
 use Rattle.control.specs.declared.Stage.the-variants.{Searching}
 use Rattle.control.specs.Rules.{breakBegun}
+use Rattle.receiver.specs.Energy.{decisionOf}
 use Rattle.receiver.specs.Calls.{fresh}
 use Rattle.receiver.specs.Lists.{samplesRead}
 use Rattle.receiver.proofs.Lists.{one-reading}
@@ -33,7 +35,7 @@ use Rattle.breaks.specs.Line.{Item, character, break, IsItem, itemBits, 
 use Rattle.breaks.proofs.Bits.{LateBreak, stays-late, late-over, FirstBits, before, bitBefore, first-bits-step, leave}
 use Rattle.breaks.proofs.Bits.{FirstMark, late, first-mark-step, SecondMark, first-mark-over, second-mark-step, second-mark-over}
 
-module _ {noise : ℕ} (t : Tones) (M : Margins noise t) (m : ℕ) where
+module _ {noise : ℕ} (t : Tones) {decide : List ℤ → Decision} (M : Margins noise t decide) (m : ℕ) where
   -- ---- a break
   module _ (Y bits : List ℕ) (rest : (p : ℕ) → M .Begins p → ReadFrom t M m (BetweenCharacters Y 0) (sending t M m p 1 bits)) where
     -- from its last bit on
@@ -109,7 +111,7 @@ module _ {noise : ℕ} (t : Tones) (M : Margins noise t) (m : ℕ) where
 
 -- ---- a line
 
-module _ {noise : ℕ} (l : Line noise) (M : Margins noise (tonesOf (l .band))) where
+module _ {noise : ℕ} (l : Line noise) (M : Margins noise (tonesOf (l .band)) (decisionOf (tonesOf (l .band)))) where
   pub read-as-keyed : ReadAsKeyed l
   read-as-keyed =
       one-reading (fresh (l .band)) (l .blocks) .events

@@ -37,20 +37,36 @@ module _ {A B : Type 0} where
             ∙ paired-sides xs;
       }
 
+-- the inputs that a call takes: none if it is refused
+abbrev pub taken : {S I L : Type 0} → Outcome S L → List I → List I
+taken o inputs = cond (isAccepted o) inputs []
+
+-- The list of calls is a machine, and the run over the inputs of the accepted ones is the machine inside it.
+module _ {S I L C B : Type 0} (rule : S → C → Outcome S L) (inputs : C → List I) {after : S → List I → S} {gives : S → List I → List B}
+    (run : RunLaws after gives) (moves : (s : S) (c : C) → rule s c .state ≡ after s (taken (rule s c) (inputs c))) where
+  -- the inputs of the accepted calls
+  abbrev pub inputsIn : S → List C → List I
+  inputsIn = joined rule (λ o c. inputs c)
+
+  pub joined-moves : (s : S) (cs : List C) → stateAfter rule s cs ≡ after s (inputsIn s cs)
+  joined-moves = part-after (λ s c. rule s c .state) run (λ s. s) (λ s c. taken (rule s c) (inputs c)) moves
+
+  -- what is picked of each outcome is what the run gives
+  pub joined-picked : (pick : Outcome S L → List B)
+      → ((s : S) (c : C) → cond (isAccepted (rule s c)) (pick (rule s c)) [] ≡ gives s (taken (rule s c) (inputs c)))
+      → (s : S) (cs : List C) → joined rule (λ o c. pick o) s cs ≡ gives s (inputsIn s cs)
+  joined-picked pick shows s cs =
+      sym (each-itself (joined rule (λ o c. pick o) s cs))
+      ∙ part-gives (λ s c. rule s c .state) run (λ s. s) (λ s c. taken (rule s c) (inputs c)) moves
+      (λ s c. cond (isAccepted (rule s c)) (pick (rule s c)) []) (λ a. a ∷ [])
+      (λ s c. each-itself (cond (isAccepted (rule s c)) (pick (rule s c)) []) ∙ shows s c) s cs
+
 module _ {S I L A : Type 0} {lending : Lending L A} (keeps : Keeps lending)
     {after : S → List I → S} {gives : S → List I → List A} (run : RunLaws after gives) where
-  -- the inputs that a call takes: none if it is refused
-  abbrev taken : Outcome S L → List I → List I
-  taken o inputs = cond (isAccepted o) inputs []
-
-  -- what it wrote
-  abbrev wrote : Outcome S L → List A
-  wrote o = cond (isAccepted o) (frontIn lending o) []
-
   -- A call that runs over its inputs if it is accepted, and does nothing if it is refused.
   pub record IsRun (inputs : List I) (s : S) (o : Outcome S L) : Type 0 where
     pub moves : o .state ≡ after s (taken o inputs)
-    pub shows : wrote o ≡ gives s (taken o inputs)
+    pub shows : cond (isAccepted o) (frontIn lending o) [] ≡ gives s (taken o inputs)
 
   pub refused-run : (n : ℕ) (s : S) (inputs : List I) (lent : L) → IsRun inputs s (refused (suc n) s lent)
   refused-run n s inputs lent =
@@ -59,23 +75,13 @@ module _ {S I L A : Type 0} {lending : Lending L A} (keeps : Keeps lending)
   pub accepted-run : (s : S) (inputs : List I) (lent : L) → IsRun inputs s (acceptedIn lending (after s inputs) (gives s inputs) lent)
   accepted-run s inputs lent = record { moves = refl; shows = keeps .back (gives s inputs) lent }
 
-  -- The list of calls is a machine, and the run over the inputs of the accepted ones is the machine inside it.
   module _ {C : Type 0} (rule : S → C → Outcome S L) (inputs : C → List I) (law : (s : S) (c : C) → IsRun (inputs c) s (rule s c)) where
-    abbrev fed : S → C → List I
-    fed s c = taken (rule s c) (inputs c)
+    pub joined-state : (s : S) (cs : List C) → stateAfter rule s cs ≡ after s (inputsIn rule inputs run (λ s c. law s c .moves) s cs)
+    joined-state = joined-moves rule inputs run (λ s c. law s c .moves)
 
-    -- the inputs of the accepted calls
-    abbrev pub inputsIn : S → List C → List I
-    inputsIn = joined rule (λ o c. inputs c)
-
-    pub joined-state : (s : S) (cs : List C) → stateAfter rule s cs ≡ after s (inputsIn s cs)
-    joined-state = part-after (λ s c. rule s c .state) run (λ s. s) fed (λ s c. law s c .moves)
-
-    pub joined-front : (s : S) (cs : List C) → joined rule (λ o c. frontIn lending o) s cs ≡ gives s (inputsIn s cs)
-    joined-front s cs =
-        sym (each-itself (joined rule (λ o c. frontIn lending o) s cs))
-        ∙ part-gives (λ s c. rule s c .state) run (λ s. s) fed (λ s c. law s c .moves) (λ s c. wrote (rule s c)) (λ a. a ∷ [])
-        (λ s c. each-itself (wrote (rule s c)) ∙ law s c .shows) s cs
+    pub joined-front : (s : S) (cs : List C)
+        → joined rule (λ o c. frontIn lending o) s cs ≡ gives s (inputsIn rule inputs run (λ s c. law s c .moves) s cs)
+    joined-front = joined-picked rule inputs run (λ s c. law s c .moves) (frontIn lending) (λ s c. law s c .shows)
 
 -- what is picked of the calls alone is picked of each accepted one
 module _ {S L C B : Type 0} (rule : S → C → Outcome S L) (f : C → List B) where

@@ -1,27 +1,20 @@
--- Stretches of decisions of which most do not count: the run over a list; a wait, of which the last decision takes the slot; a search
--- that none of the decisions ends.
+-- Stretches of decisions of which most do not count: the run over a list, and decisions that end no search.
 -- Assumes nothing.
-use mathlib.Core.Path.{_≡_, refl, sym, ap, _∙_}
+use mathlib.Core.Path.{_≡_}
 use mathlib.Core.Bool.{Bool, false, and-false, Bool·beq}
-use mathlib.Core.List.{List, [], _∷_, _++_, append-nil}
-use Prim.Native.Nat.{ℕ, suc, _+_, _-_, _<_, _≤_, min}
+use mathlib.Core.List.{List, [], _∷_, _++_}
+use Prim.Native.Nat.{ℕ, _+_, _≤_, min}
 use native.Mathlib.Omega.{arith}
 use borrow.Author.Tests.{ne-eqb}
 use lib.Dec.{eqb}
 use lib.ListN.{length}
 use Rattle.integers.proofs.Tests.{cond-case}
-use Rattle.calls.specs.Runs.{after, indexed, withIndex}
+use Rattle.calls.specs.Runs.{after}
 use Rattle.calls.proofs.Runs.{run-laws}
-use Rattle.calls.proofs.Indexed.{indexed-append}
 use Rattle.control.specs.declared.Decision.{Decision}
-use Rattle.control.specs.declared.Next.{Next}
-use Rattle.control.specs.declared.Stage.{Stage}
-use Rattle.control.specs.declared.Stage.the-variants.{Waiting}
-use Rattle.control.specs.declared.Control.{Control}
-use Rattle.control.specs.Rules.{numbers, quiet, runAfter, nextOf, controlAfter, reported, follow, reportsFrom}
+use Rattle.control.specs.Rules.{runAfter}
 use Rattle.control.specs.AsCoded.{isFound, runOver, NoneFound}
 use Rattle.control.proofs.Ranges.{run-kept}
-use Rattle.control.proofs.Rules.{wait-more, IsSearch, control-after, events-reported}
 
 -- ---- the run
 
@@ -72,68 +65,3 @@ module _ (space : Bool) (d : Decision) where
   unfolding NoneFound after
   none-last run [] h = (tt, h .0)
   none-last run (e ∷ ds) h = let l = none-last (runAfter run (e .good)) ds (h .1) in ((h .0, l .0), l .1)
-
--- ---- where a list of decisions leads
-
--- from c to a run and a stage, with these events, where the first decision has the index k
-pub record Leads (k : ℕ) (c : Control) (ds : List Decision) (run : ℕ) (stage : Stage) (events : List (ℕ × ℕ)) : Type 0 where
-  pub control : follow c ds ≡ record { run = run; stage = stage }
-  pub told : reportsFrom k c ds ≡ events
-
--- one decision behind others that tell nothing
-module _ {k : ℕ} {c : Control} {ds : List Decision} {run : ℕ} {stage : Stage} where
-  pub lead-more : (d : Decision) (n : Next) → n ≡ nextOf stage (runAfter run (d .good)) d → Leads k c ds run stage []
-      → Leads k c (ds ++ d ∷ []) (runAfter run (d .good)) (n .stage) (withIndex (k + length ds) (numbers (n .event)))
-  unfolding after indexed
-  lead-more d n en l =
-      let here : Control = record { run = run; stage = stage } in
-      let run′ : ℕ = runAfter run (d .good) in
-      record {
-        control =
-            run-laws controlAfter reported .after-append c ds (d ∷ [])
-            ∙ ap (λ (u : Control). controlAfter u d) (l .control)
-            ∙ control-after here d run′ n refl en;
-        told =
-            indexed-append controlAfter reported k c ds (d ∷ [])
-            ∙ (λ i. l .told i ++ (withIndex (k + length ds) (reported (l .control i) d) ++ []))
-            ∙ append-nil (withIndex (k + length ds) (reported here d))
-            ∙ ap (withIndex (k + length ds)) (events-reported here d run′ n refl en);
-      }
-
--- one decision before others, which tells nothing
-lead-next : (k run : ℕ) (stage stage′ : Stage) (d : Decision) (ds : List Decision) {run″ : ℕ} {stage″ : Stage} {events : List (ℕ × ℕ)}
-    → nextOf stage (runAfter run (d .good)) d ≡ quiet stage′
-    → Leads (k + 1) (record { run = runAfter run (d .good); stage = stage′ }) ds run″ stage″ events
-    → Leads k (record { run = run; stage = stage }) (d ∷ ds) run″ stage″ events
-unfolding after indexed
-lead-next k run stage stage′ d ds e l =
-    let here : Control = record { run = run; stage = stage } in
-    let run′ : ℕ = runAfter run (d .good) in
-    record {
-      control = ap (λ (u : Control). follow u ds) (control-after here d run′ (quiet stage′) refl (sym e)) ∙ l .control;
-      told =
-          (λ i. withIndex k (events-reported here d run′ (quiet stage′) refl (sym e) i)
-          ++ reportsFrom (k + 1) (control-after here d run′ (quiet stage′) refl (sym e) i) ds)
-          ∙ l .told;
-    }
-
--- a wait, before its last decision
-pub waits : (k run wait slot byte : ℕ) (ds : List Decision) → length ds < wait
-    → Leads k (record { run = run; stage = Waiting wait slot byte }) ds (runOver run ds) (Waiting (wait - length ds) slot byte) []
-unfolding after indexed
-waits k run wait slot byte [] h =
-    let e : wait - 0 ≡ wait = omega arith in
-    rw e (record { control = refl; told = refl })
-waits k run wait slot byte (d ∷ ds) h =
-    let e : wait - suc (length ds) ≡ wait - 1 - length ds = omega arith in
-    rw e
-    (lead-next k run (Waiting wait slot byte) (Waiting (wait - 1) slot byte) d ds (wait-more (runAfter run (d .good)) d wait slot byte (omega arith))
-    (waits (k + 1) (runAfter run (d .good)) (wait - 1) slot byte ds (omega arith)))
-
--- a search that none of them ends
-module _ {space : Bool} {stage next : Stage} (s : IsSearch space stage next) where
-  pub searches : (k run : ℕ) (ds : List Decision) → NoneFound space run ds → Leads k (record { run = run; stage = stage }) ds (runOver run ds) stage []
-  unfolding after indexed NoneFound
-  searches k run [] h = record { control = refl; told = refl }
-  searches k run (d ∷ ds) h =
-      lead-next k run stage stage d ds (s .step (runAfter run (d .good)) d ∙ rw (h .0)) (searches (k + 1) (runAfter run (d .good)) ds (h .1))

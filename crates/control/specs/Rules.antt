@@ -5,7 +5,7 @@ use mathlib.Core.Bool.{Bool, cond, not, _&&_, _||_}
 use mathlib.Core.List.{List, [], _∷_}
 use Prim.Native.Nat.{ℕ, zero, suc, _+_, _-_, _*_, _^_, min}
 use lib.Dec.{ltb, leb, eqb}
-use Rattle.calls.specs.Runs.{after, gives, indexed}
+use Rattle.calls.specs.Runs.{after, gives}
 use Rattle.control.specs.declared.Bit.{Bit}
 use Rattle.control.specs.declared.Bit.the-variants.{Mark, Space, Doubtful}
 use Rattle.control.specs.declared.Decision.{Decision}
@@ -138,7 +138,3 @@ follow = after controlAfter
 
 abbrev pub reports : Control → List Decision → List ℕ
 reports = gives controlAfter reported
-
--- these, each with the index of its decision, where the first decision has the index k
-abbrev pub reportsFrom : ℕ → Control → List Decision → List (ℕ × ℕ)
-reportsFrom = indexed controlAfter reported

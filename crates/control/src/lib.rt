@@ -31,11 +31,12 @@ pub enum Bit {
 }
 
 // What the energies of a window decide: the level is good; space is above mark, for a search, a start slot and a held break; the bit, for the
-// other slots.
+// other slots. Beside it stands how far the energies are apart, larger minus smaller, which no rule here looks at.
 pub struct Decision {
     pub good: bool,
     pub space: bool,
     pub bit: Bit,
+    pub difference: i64,
 }
 
 // A character (0 to 255), 256 for no stop bit, 257 for a lost carrier, 258 for a break or 259 for a doubtful bit; or nothing.

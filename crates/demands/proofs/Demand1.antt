@@ -3,7 +3,7 @@
 use mathlib.Core.Path.{_≡_, refl, sym, ap, _∙_}
 use mathlib.Core.Bool.{Bool, true, false, cond, not}
 use mathlib.Core.List.{List, [], _∷_, map}
-use Prim.Native.Nat.{ℕ, min}
+use Prim.Native.Nat.{ℕ}
 use borrow.Author.Tests.{eq-eqb, ne-eqb}
 use lib.Dec.{eqb}
 use lib.IntN.{ℤ}
@@ -15,7 +15,7 @@ use Rattle.calls.proofs.Refusals.{is-first}
 use Rattle.tones.specs.Bands.{isBand}
 use Rattle.transmitter.specs.Samples.{idleBits, charactersBits}
 use Rattle.transmitter.specs.Calls as transmitter
-use Rattle.receiver.specs.Step.{stateAfter, eventsAfter, indexedAfter}
+use Rattle.receiver.specs.Step.{stateAfter, measuredAfter, indexedAfter}
 use Rattle.receiver.specs.Calls as receiver
 use Rattle.tap.specs.Step as tap-step
 use Rattle.tap.specs.Calls as tap
@@ -60,14 +60,14 @@ demand-1 =
           answers _ (transmitter.charactersTests s (length bytes) (length lent)) s lent _ (transmitter.sent s (charactersBits bytes) lent) refl refl
           (λ e. refl);
       block = λ s c.
-          answers _ (receiver.blockTests s (c .samples) (length (c .lent))) s (c .lent) _
-          (accepted (stateAfter s (c .samples)) (eventsAfter s (c .samples)) (c .lent)) refl refl (λ e. refl);
+          answers _ (receiver.blockTests s (c .samples) (receiver.shorter (c .lent))) s (c .lent) _
+          (acceptedIn receiver.twoLists (stateAfter s (c .samples)) (measuredAfter s (c .samples)) (c .lent)) refl refl (λ e. refl);
       block-indexed = λ s c.
-          answers _ (receiver.blockTests s (c .samples) (min (length (c .lent)) (length (c .indices)))) s (c .lent, c .indices) _
-          (acceptedIn (bothIn oneList oneList) (stateAfter s (c .samples)) (indexedAfter s (c .samples)) (c .lent, c .indices)) refl refl (λ e. refl);
+          answers _ (receiver.blockTests s (c .samples) (receiver.shortest (c .lent, c .indices))) s (c .lent, c .indices) _
+          (acceptedIn (bothIn receiver.twoLists oneList) (stateAfter s (c .samples)) (indexedAfter s (c .samples)) (c .lent, c .indices)) refl refl (λ e. refl);
       tap-block = λ t c.
-          answers _ (tap.blockTests t (c .samples) (length (c .lent))) t (c .lent) _
-          (accepted (tap-step.stateAfter t (c .samples)) (tap-step.eventsAfter t (c .samples)) (c .lent)) refl refl (λ e. refl);
+          answers _ (tap.blockTests t (c .samples) (receiver.shorter (c .lent))) t (c .lent) _
+          (acceptedIn receiver.twoLists (tap-step.stateAfter t (c .samples)) (tap-step.measuredAfter t (c .samples)) (c .lent)) refl refl (λ e. refl);
       sheet-reading = λ text lent.
           answers _ (sheet.readTests text (length lent)) 0 lent _ (accepted (bandIn text) (samplesOf text) lent) refl refl (whole text lent);
       sheet-writing = λ band samples lent.

@@ -6,6 +6,7 @@ use Rattle.transmitter.proofs.Examples.{examples}
 use Rattle.receiver.proofs.Lists.{one-reading, two-blocks}
 use Rattle.receiver.proofs.Indexed.{indexed-reading}
 use Rattle.receiving.proofs.Stored.{state-stored}
+use Rattle.differences.proofs.Differences.{differences}
 use Rattle.tap.proofs.Lists.{both-directions}
 use Rattle.demands.specs.Demand2.{Demand2}
 
@@ -19,6 +20,8 @@ demand-2 =
       events = one-reading;
       joined-blocks = two-blocks;
       indices = indexed-reading;
+      unsteered = differences .unsteered;
+      own-slots = differences .own-slots;
       both-directions = both-directions;
       stored = state-stored;
       tap-stored = λ t i. record { first = state-stored (t .first) i; second = state-stored (t .second) i };

@@ -3,6 +3,7 @@
 use Rattle.promise.proofs.Promise.{all-read}
 use Rattle.promise.proofs.Possible.{not-vacuous}
 use Rattle.doubts.proofs.Doubts.{doubts}
+use Rattle.differences.proofs.Differences.{differences}
 use Rattle.tapped.proofs.Tapped.{read-on-tap, pairs-possible, taps-possible, read-with-indices}
 use Rattle.modulator.proofs.Cut as modulate
 use Rattle.demodulator.proofs.Cut as demodulate
@@ -15,6 +16,7 @@ demand-3 =
       promise = all-read;
       possible = not-vacuous;
       never-doubtful = doubts .in-recordings;
+      clear = differences .clear;
       on-tap = read-on-tap;
       pairs-possible = pairs-possible;
       taps-possible = taps-possible;

@@ -6,7 +6,7 @@
 -- Assumes nothing.
 use mathlib.Core.Path.{_≡_}
 use mathlib.Core.List.{List, [], _∷_}
-use Prim.Native.Nat.{ℕ, min}
+use Prim.Native.Nat.{ℕ}
 use lib.IntN.{ℤ}
 use lib.ListN.{length}
 use Rattle.calls.specs.Outcome.{Outcome, acceptedIn, oneList, bothIn, accepted, front}
@@ -14,7 +14,7 @@ use Rattle.transmitter.specs.declared.Transmitter.{Transmitter}
 use Rattle.transmitter.specs.Samples.{idleBits, charactersBits}
 use Rattle.transmitter.specs.Calls as transmitter
 use Rattle.receiver.specs.declared.Receiver.{Receiver}
-use Rattle.receiver.specs.Step.{stateAfter, eventsAfter, indexedAfter}
+use Rattle.receiver.specs.Step.{stateAfter, measuredAfter, indexedAfter}
 use Rattle.receiver.specs.Calls as receiver
 use Rattle.receiver.specs.Lists as reading
 use Rattle.tap.specs.declared.Tap.{Tap}
@@ -46,19 +46,20 @@ pub record Demand1 : Type 0 where
       → Answers (2 ∷ 3 ∷ 4 ∷ []) (transmitter.charactersTests s (length bytes) (length lent)) s lent
       (λ o. o ≡ accepted (transmitter.afterBits s (charactersBits bytes)) (transmitter.samplesOf s (charactersBits bytes)) lent)
       (transmitter.charactersOf s bytes lent)
-  -- a block, through either entry, has read every sample: state and events are those of the step rule over all of them
+  -- a block, through either entry, has read every sample: state and events, with their differences, are those of the step rule over all of
+  -- them
   pub block : (s : Receiver) (c : reading.Call)
-      → Answers (2 ∷ 3 ∷ 5 ∷ 4 ∷ []) (receiver.blockTests s (c .samples) (length (c .lent))) s (c .lent)
-      (λ o. o ≡ accepted (stateAfter s (c .samples)) (eventsAfter s (c .samples)) (c .lent)) (reading.callOf s c)
+      → Answers (2 ∷ 3 ∷ 5 ∷ 4 ∷ []) (receiver.blockTests s (c .samples) (receiver.shorter (c .lent))) s (c .lent)
+      (λ o. o ≡ acceptedIn receiver.twoLists (stateAfter s (c .samples)) (measuredAfter s (c .samples)) (c .lent)) (reading.callOf s c)
   -- with indices it has told with which sample each event came
   pub block-indexed : (s : Receiver) (c : reading.IndexedCall)
-      → Answers (2 ∷ 3 ∷ 5 ∷ 4 ∷ []) (receiver.blockTests s (c .samples) (min (length (c .lent)) (length (c .indices)))) s (c .lent, c .indices)
-      (λ o. o ≡ acceptedIn (bothIn oneList oneList) (stateAfter s (c .samples)) (indexedAfter s (c .samples)) (c .lent, c .indices))
+      → Answers (2 ∷ 3 ∷ 5 ∷ 4 ∷ []) (receiver.blockTests s (c .samples) (receiver.shortest (c .lent, c .indices))) s (c .lent, c .indices)
+      (λ o. o ≡ acceptedIn (bothIn receiver.twoLists oneList) (stateAfter s (c .samples)) (indexedAfter s (c .samples)) (c .lent, c .indices))
       (reading.indexedCallOf s c)
   -- a tap has read every sample with both receivers
   pub tap-block : (t : Tap) (c : tapping.Call)
-      → Answers (2 ∷ 3 ∷ 5 ∷ 4 ∷ []) (tap.blockTests t (c .samples) (length (c .lent))) t (c .lent)
-      (λ o. o ≡ accepted (tap-step.stateAfter t (c .samples)) (tap-step.eventsAfter t (c .samples)) (c .lent)) (tapping.callOf t c)
+      → Answers (2 ∷ 3 ∷ 5 ∷ 4 ∷ []) (tap.blockTests t (c .samples) (receiver.shorter (c .lent))) t (c .lent)
+      (λ o. o ≡ acceptedIn receiver.twoLists (tap-step.stateAfter t (c .samples)) (tap-step.measuredAfter t (c .samples)) (c .lent)) (tapping.callOf t c)
   -- a sheet is read whole, or written whole; a refused reading gives band 0
   pub sheet-reading : (text : List ℕ) (lent : List ℤ)
       → Answers (6 ∷ 7 ∷ 1 ∷ 3 ∷ 5 ∷ 4 ∷ []) (sheet.readTests text (length lent)) 0 lent (WholeSheet text lent) (sheet.readOf text lent)

@@ -7,6 +7,7 @@ use Rattle.promise.specs.Recordings.{Transmission, events}
 use Rattle.promise.specs.ReadAsSent.{ReadAsSent}
 use Rattle.promise.specs.Possible.{NotVacuous}
 use Rattle.doubts.specs.Doubts.{NoneDoubtful}
+use Rattle.differences.specs.Differences.{AllClear}
 use Rattle.tapped.specs.Tapped.{PairsPossible, Tapped, ReadOnTap, TapsPossible, Indexed, ReadWithIndices}
 use Rattle.modulator.specs.Modulate as modulate
 use Rattle.demodulator.specs.Demodulate as demodulate
@@ -18,6 +19,8 @@ pub record Demand3 : Type 0 where
   pub possible : NotVacuous
   -- and it never shows a doubtful bit
   pub never-doubtful : (t : Transmission disturbance) → NoneDoubtful (events t)
+  -- and no event has a difference below `clearance`
+  pub clear : (t : Transmission disturbance) → AllClear t
   -- read by a tap on a pair that has the sending's band, the events of that band are the characters sent, whatever the other receiver
   -- tells; and so are the events that are read with indices
   pub on-tap : (t : Tapped disturbance) → ReadOnTap t

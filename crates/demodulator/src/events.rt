@@ -1,4 +1,4 @@
-// The events of samples, read by a fresh receiver and printed.
+// The events of samples, read by a fresh receiver and printed. Their differences are not printed.
 ghost use mathlib.Core.Path.{_≡_};
 ghost use mathlib.Core.Bool.{true};
 ghost use Prim.Native.Nat.{_≤_};
@@ -24,7 +24,8 @@ pub(crate) fn put_events_of(band: u8, samples: &[i16], out: &mut [u8]) -> usize
     let opened = Receiver::open(band);
     let fresh = opened.receiver;
     let mut events = [0u16; receiver::MOST_EVENTS];
-    let reading = fresh.block(samples, &mut events);
+    let mut differences = [0i64; receiver::MOST_EVENTS];
+    let reading = fresh.block(samples, &mut events, &mut differences);
     let answer = reading.answer;
     let n = answer.count;
     put_events(out, &events[..n])

@@ -29,12 +29,15 @@ use Rattle.control.proofs.Ranges.{control-stage}
 use Rattle.control.proofs.Events.{doubt-only}
 use Rattle.weighing.specs.Weighing.{level}
 use Rattle.weighing.proofs.Laws.{level-ℕ, weighed-means}
+use Rattle.quality.specs.declared.Difference.the-variants.{None}
+use Rattle.quality.specs.Quality.{isKept}
 use Rattle.receiver.specs.declared.Receiver.{Receiver}
 use Rattle.receiver.specs.Energy.{energyℕ}
-use Rattle.receiver.specs.Step.{controlOf, entered, decisionAt, afterSample, eventsAt}
+use Rattle.receiver.specs.Step.{controlOf, entered, decisionAt, eventsAt}
 use Rattle.receiver.specs.Calls.{inRange}
 use Rattle.receiver.proofs.Energies.{decision-ℕ}
 use Rattle.receiver.proofs.Ranges.{in-range}
+use Rattle.receiver.proofs.Windows.{control-sample}
 use Rattle.margin.specs.Windows.{across}
 use Rattle.doubts.specs.Doubts.{spaceAt, markAt, largerAt, smallerAt, Doubted, ToldExactly, ThenSearches, SomeDoubt}
 
@@ -87,8 +90,7 @@ module _ (s : Receiver) (x : ℤ) where
           }
 
   pub then-searches : ThenSearches s x
-  unfolding afterSample
-  then-searches k = ap (λ (c : Control). c .stage) (control-after (controlOf s) d run (report bitDoubtful) refl (sym (next k)))
+  then-searches k = ap (λ (c : Control). c .stage) (control-sample s x ∙ control-after (controlOf s) d run (report bitDoubtful) refl (sym (next k)))
 
 -- ---- that there are such bits: in the window with half a mark bit and half a space bit behind it, at the phase 0
 
@@ -98,7 +100,7 @@ module _ (band : ℕ) where
 
   -- all but its last sample behind a silent one, before slot 1
   abbrev state : Receiver
-  state = record { band = band; window = pos 0 ∷ take 31 halfway; run = 32; stage = Waiting 1 1 0 }
+  state = record { band = band; window = pos 0 ∷ take 31 halfway; run = 32; stage = Waiting 1 1 0; smallest = None }
 
   abbrev sample : ℤ
   sample = getD halfway 31 (pos 0)
@@ -112,7 +114,7 @@ module _ (band : ℕ) where
   doubtedIn = cond (isBand band) isDoubted true
 
 all-doubted : passesBelow doubtedIn 10 ≡ true
-unfolding doubtedIn bands isBand tonesOf areBetween sumTo inRange isControl isStage isSlot across energyℕ wave S half nearest
+unfolding doubtedIn bands isBand tonesOf areBetween sumTo inRange isControl isStage isSlot isKept across energyℕ wave S half nearest
 all-doubted = refl
 
 pub some-doubt : (band : ℕ) (known : isBand band ≡ true) → SomeDoubt band

@@ -1,10 +1,11 @@
 -- The ring laws of ℤ that the library lacks.
 -- Assumes nothing.
 use mathlib.Core.Path.{_≡_, refl, sym, ap, _∙_}
-use Prim.Native.Nat.{zero, suc}
+use Prim.Native.Nat.{ℕ, zero, suc, _+_, _-_, _≤_}
 use native.Mathlib.Nat.{mul-one, mul-zero}
-use lib.IntN.{ℤ, pos, negsuc, sucℤ, predℤ, negℤ, _+ℤ_, _*ℤ_}
-use lib.IntN.{+ℤ-assoc, +ℤ-comm, +ℤ-idl, sucℤ-+ℤ, predℤ-+ℤ, sucℤ-*ℤ, predℤ-*ℤ, zero-*ℤ, negℤ-negℤ}
+use native.Mathlib.Omega.{arith}
+use lib.IntN.{ℤ, pos, negsuc, sucℤ, predℤ, negℤ, _+ℤ_, _-ℤ_, _*ℤ_}
+use lib.IntN.{+ℤ-assoc, +ℤ-comm, +ℤ-idl, sucℤ-+ℤ, predℤ-+ℤ, sucℤ-*ℤ, predℤ-*ℤ, zero-*ℤ, negℤ-negℤ, pos-+ℤ-pos, +ℤ-negℤ-cancel}
 
 -- (a + b) + (c + d) = (a + c) + (b + d)
 pub +ℤ-swap : (a b c d : ℤ) → (a +ℤ b) +ℤ (c +ℤ d) ≡ (a +ℤ c) +ℤ (b +ℤ d)
@@ -49,3 +50,9 @@ pub *ℤ-minus-one : (z : ℤ) → z *ℤ negsuc 0 ≡ negℤ z
 pub *ℤ-zero : (z : ℤ) → z *ℤ pos 0 ≡ pos 0
 *ℤ-zero (pos n) = rw mul-zero
 *ℤ-zero (negsuc n) = rw mul-zero
+
+-- natural numbers, the smaller taken from the larger
+pub pos--ℤ-pos : (a b : ℕ) → b ≤ a → pos a -ℤ pos b ≡ pos (a - b)
+pos--ℤ-pos a b h =
+    let e : a - b + b ≡ a = omega arith in
+    ap (λ (n : ℕ). pos n -ℤ pos b) (sym e) ∙ ap (λ (z : ℤ). z -ℤ pos b) (sym (pos-+ℤ-pos (a - b) b)) ∙ +ℤ-negℤ-cancel (pos (a - b)) (pos b)

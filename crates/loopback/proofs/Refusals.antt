@@ -36,31 +36,34 @@ module _ (characters size : ℕ) where
         high = leb-true size mostSamples (and-elim-right (leb characters mostCharacters && leb 1 size) (leb size mostSamples) h);
       }
 
-module _ (characters added samples events : ℕ) where
+module _ (characters added samples events differences : ℕ) where
   pub record Roomy : Type 0 where
     pub numbers : samplesFor characters ≤ added
     pub places : samplesFor characters ≤ samples
     pub free : characters ≤ events
+    pub beside : characters ≤ differences
 
-  roomy : isRoom characters added samples events ≡ true → Roomy
+  roomy : isRoom characters added samples events differences ≡ true → Roomy
   roomy h =
       let n : ℕ = samplesFor characters in
-      let both = and-elim-left (leb n added && leb n samples) (leb characters events) h in
+      let three = and-elim-left (leb n added && leb n samples && leb characters events) (leb characters differences) h in
+      let both = and-elim-left (leb n added && leb n samples) (leb characters events) three in
       record {
         numbers = leb-true n added (and-elim-left (leb n added) (leb n samples) both);
         places = leb-true n samples (and-elim-right (leb n added) (leb n samples) both);
-        free = leb-true characters events (and-elim-right (leb n added && leb n samples) (leb characters events) h);
+        free = leb-true characters events (and-elim-right (leb n added && leb n samples) (leb characters events) three);
+        beside = leb-true characters differences (and-elim-right (leb n added && leb n samples && leb characters events) (leb characters differences) h);
       }
 
-module _ (band characters : ℕ) (added : List ℤ) (size samples events : ℕ) where
+module _ (band characters : ℕ) (added : List ℤ) (size samples events differences : ℕ) where
   pub record Allowed : Type 0 where
     pub known : isBand band ≡ true
     pub sizes : Sized characters size
     pub small : areDisturbances added ≡ true
-    pub room : Roomy characters (length added) samples events
+    pub room : Roomy characters (length added) samples events differences
 
   abbrev tests : List Test
-  tests = loopbackTests band characters added size samples events
+  tests = loopbackTests band characters added size samples events differences
 
   pub allowed : firstOf tests ≡ 0 → Allowed
   allowed e = all (none-holds tests (tt, (tt, (tt, (tt, tt)))) e)
@@ -71,14 +74,14 @@ module _ (band characters : ℕ) (added : List ℤ) (size samples events : ℕ) 
             known = not-false (isBand band) b;
             sizes = sized characters size (not-false (isSize characters size) s);
             small = not-false (areDisturbances added) d;
-            room = roomy characters (length added) samples events (not-false (isRoom characters (length added) samples events) r);
+            room = roomy characters (length added) samples events differences (not-false (isRoom characters (length added) samples events differences) r);
           }
 
 -- ---- the two outcomes
 
 module _ (band : ℕ) (characters : List ℕ) (added : List ℤ) (size : ℕ) (lent : Lists) where
   abbrev asked : List Test
-  asked = loopbackTests band (length characters) added size (length (lent .samples)) (length (lent .events))
+  asked = loopbackTests band (length characters) added size (length (lent .samples)) (length (lent .events)) (length (lent .differences))
 
   pub loopback-refused : (n : ℕ) → n ≡ firstOf asked → (n ≡ 0 → ⊥) → refused n tt lent ≡ loopbackOf band characters added size lent
   unfolding loopbackOf

@@ -18,7 +18,8 @@ use transmitter::MOST_CHARACTERS;
 pub const DISTURBANCE: i16 = 100;
 
 // Sends leader, characters and trailer in a band, adds the numbers of `disturbance` sample by sample, and reads the result in
-// blocks of `size` through the receiver's second entry. The samples as they were read and the events go to the caller's buffers.
+// blocks of `size` through the receiver's second entry. The samples as they were read, the events and their differences go to the caller's
+// buffers.
 pub fn loopback(
     band: u8,
     characters: &[u8],
@@ -26,9 +27,11 @@ pub fn loopback(
     size: usize,
     samples: &mut [i16],
     events: &mut [u16],
+    differences: &mut [i64],
 ) -> Answer
-    ensures { λ r. ⌜ outcome r tt (lists (now (samples .exit)) (now (events .exit)))
-        ≡ loopbackOf band (now (characters .entry)) (now (disturbance .entry)) size (lists (now (samples .entry)) (now (events .entry))) ⌝ }
+    ensures { λ r. ⌜ outcome r tt (lists (now (samples .exit)) (now (events .exit)) (now (differences .exit)))
+        ≡ loopbackOf band (now (characters .entry)) (now (disturbance .entry)) size
+        (lists (now (samples .entry)) (now (events .entry)) (now (differences .entry))) ⌝ }
 {
     let number = refusal(
         band,
@@ -37,6 +40,7 @@ pub fn loopback(
         size,
         samples.len(),
         events.len(),
+        differences.len(),
     );
     if number != 0 {
         return Answer { number, count: 0 };
@@ -44,7 +48,7 @@ pub fn loopback(
     let sent = message::send(band, characters, samples);
     let end = sent.count;
     disturb::disturb(&mut samples[..end], disturbance);
-    let count = receive::receive(band, &samples[..end], size, events);
+    let count = receive::receive(band, &samples[..end], size, events, differences);
     Answer { number: 0, count }
 }
 
@@ -56,8 +60,9 @@ fn refusal(
     size: usize,
     samples: usize,
     events: usize,
+    differences: usize,
 ) -> u8
-    ensures { λ r. ⌜ r ≡ firstOf (loopbackTests band characters (now (disturbance .entry)) size samples events) ⌝ }
+    ensures { λ r. ⌜ r ≡ firstOf (loopbackTests band characters (now (disturbance .entry)) size samples events differences) ⌝ }
 {
     if !tones::is_band(band) {
         1
@@ -65,7 +70,7 @@ fn refusal(
         3
     } else if !tones::are_between(disturbance, -DISTURBANCE, DISTURBANCE) {
         5
-    } else if !is_room(characters, disturbance.len(), samples, events) {
+    } else if !is_room(characters, disturbance.len(), samples, events, differences) {
         4
     } else {
         0
@@ -79,11 +84,17 @@ fn is_size(characters: usize, size: usize) -> bool
     characters <= MOST_CHARACTERS && 1 <= size && size <= MOST_SAMPLES
 }
 
-// A number for each sample, and a place for each sample and each event.
-fn is_room(characters: usize, disturbance: usize, samples: usize, events: usize) -> bool
+// A number for each sample, and a place for each sample, each event and each difference.
+fn is_room(
+    characters: usize,
+    disturbance: usize,
+    samples: usize,
+    events: usize,
+    differences: usize,
+) -> bool
     requires { ⌜ characters ≤ mostCharacters ⌝ }
-    ensures { λ r. ⌜ r ≡ isRoom characters disturbance samples events ⌝ }
+    ensures { λ r. ⌜ r ≡ isRoom characters disturbance samples events differences ⌝ }
 {
     let n = 192 + 320 * characters;
-    n <= disturbance && n <= samples && characters <= events
+    n <= disturbance && n <= samples && characters <= events && characters <= differences
 }

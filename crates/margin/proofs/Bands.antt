@@ -1,4 +1,5 @@
--- `Margins` for every band, with each sample altered by at most `disturbance`: one test that is computed for each place of the table.
+-- `Margins` for every band, with each sample altered by at most `disturbance`, of a receiver as it is and of one that doubts differences
+-- below `clearance` too: one test that is computed for each place of the table.
 -- Assumes nothing.
 use mathlib.Core.Path.{_≡_, refl, sym, _∙_}
 use mathlib.Core.Bool.{Bool, true, false, cond, _&&_}
@@ -15,9 +16,16 @@ use Rattle.sine.specs.Sine.{S, half, nearest}
 use Rattle.tones.specs.declared.Tones.{Tones}
 use Rattle.tones.specs.Bands.{originate, bands, isBand, tonesOf}
 use Rattle.tones.proofs.Laws.{few-bands, in-band, tones-band, tones-else}
-use Rattle.margin.specs.Windows.{disturbance, Margins}
+use Rattle.quality.proofs.Clear.{strict}
+use Rattle.receiver.specs.Energy.{decisionOf}
+use Rattle.margin.specs.Windows.{disturbance, clearance, Margins}
 use Rattle.margin.proofs.Test.{test}
 use Rattle.margin.proofs.Phases.{margins-of}
+use Rattle.margin.proofs.Plain.{plainly}
+
+-- with the bit doubtful also below `clearance`
+abbrev ClearMargins : Tones → Type 1
+ClearMargins t = Margins disturbance t (λ w. strict clearance (decisionOf t w))
 
 -- ---- one row
 
@@ -34,19 +42,19 @@ strideOf t = 32 * dividing t (30 ∷ 15 ∷ 10 ∷ 6 ∷ 5 ∷ 3 ∷ 2 ∷ [])
 abbrev strideSure : Tones → (stride : ℕ) → Bool
 strideSure t stride =
     eqb (stride * (960 / stride)) 960
-    && (eqb (32 * t .space % stride) 0 && (eqb (32 * t .mark % stride) 0 && test disturbance t stride (960 / stride)))
+    && (eqb (32 * t .space % stride) 0 && (eqb (32 * t .mark % stride) 0 && test disturbance clearance t stride (960 / stride)))
 
 abbrev rowSure : Tones → Bool
 rowSure t = strideSure t (strideOf t)
 
-of-stride : (t : Tones) (stride : ℕ) → strideSure t stride ≡ true → Margins disturbance t
+of-stride : (t : Tones) (stride : ℕ) → strideSure t stride ≡ true → ClearMargins t
 of-stride t stride h =
     let whole : Bool = eqb (stride * (960 / stride)) 960 in
     let space : Bool = eqb (32 * t .space % stride) 0 in
     let mark : Bool = eqb (32 * t .mark % stride) 0 in
     let fits = and-elim-right whole _ h in
     let sure = and-elim-right space _ fits in
-    margins-of disturbance t stride (960 / stride) (eqb-true _ 960 (and-elim-left whole _ h)) (and-elim-right mark _ sure)
+    margins-of disturbance clearance t stride (960 / stride) (eqb-true _ 960 (and-elim-left whole _ h)) (and-elim-right mark _ sure)
     (eqb-true _ 0 (and-elim-left space _ fits)) (eqb-true _ 0 (and-elim-left mark _ sure))
 
 -- ---- the table
@@ -96,20 +104,23 @@ place-8 = refl
 all-sure : passesBelow sureAt 9 ≡ true
 all-sure = rw (place-0, place-1, place-2, place-3, place-4, place-5, place-6, place-7, place-8)
 
-row : (k : ℕ) → k < length bands → Margins disturbance (getD bands k originate)
+row : (k : ℕ) → k < length bands → ClearMargins (getD bands k originate)
 unfolding sureAt
 row k h =
     let t : Tones = getD bands k originate in
     of-stride t (strideOf t) (sym (map-at rowSure bands k originate true h) ∙ below-at sureAt 9 all-sure k (omega (arith, few-bands)))
 
 -- a number that is no band has the first row's tones
-first-row : Margins disturbance originate
+first-row : ClearMargins originate
 unfolding bands
 first-row = row 0 (omega arith)
 
-pub margins : (band : ℕ) → Margins disturbance (tonesOf band)
-margins band = go (isBand band) refl
+pub clear-margins : (band : ℕ) → Margins disturbance (tonesOf band) (λ w. strict clearance (decisionOf (tonesOf band) w))
+clear-margins band = go (isBand band) refl
   where
-    go : (b : Bool) → isBand band ≡ b → Margins disturbance (tonesOf band)
+    go : (b : Bool) → isBand band ≡ b → ClearMargins (tonesOf band)
     go true e = let b = in-band band e in rw (tones-band band e) (row (band - 1) (omega (arith, b .low, b .high)))
     go false e = rw (tones-else band e) first-row
+
+pub margins : (band : ℕ) → Margins disturbance (tonesOf band) (decisionOf (tonesOf band))
+margins band = plainly clearance (decisionOf (tonesOf band)) (clear-margins band)

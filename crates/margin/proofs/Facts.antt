@@ -5,12 +5,13 @@ use mathlib.Core.Path.{_≡_, ap, _∙_}
 use mathlib.Core.Bool.{Bool, true, false, cond, Bool·beq}
 use mathlib.Core.List.{List}
 use mathlib.Mathlib.Data.Bool.Basic.{and-elim-left, and-elim-right}
-use Prim.Native.Nat.{ℕ, zero, suc, _*_, _<_, _≤_, max}
+use Prim.Native.Nat.{ℕ, zero, suc, _+_, _*_, _-_, _<_, _≤_, max, min}
 use native.Mathlib.Omega.{arith}
 use borrow.Author.Tests.{ltb-true, leb-true, lt-ltb, le-ltb, le-leb, lt-leb}
 use lib.Dec.{leb, ltb, lit<}
-use lib.IntN.{ℤ}
+use lib.IntN.{ℤ, pos}
 use lib.ListN.{length, getD}
+use lib.Signed.{leZ}
 use Rattle.integers.specs.Near.{Near}
 use Rattle.integers.proofs.Tests.{passes-at, passesBelow, below-at}
 use Rattle.sine.specs.Wave.{wave}
@@ -19,7 +20,8 @@ use Rattle.tones.specs.Bands.{stepOf}
 use Rattle.control.specs.declared.Bit.the-variants.{Mark, Space}
 use Rattle.control.specs.declared.Decision.{Decision}
 use Rattle.weighing.specs.Weighing.{level, Means}
-use Rattle.weighing.proofs.Laws.{level-ℕ, weighed-as}
+use Rattle.weighing.proofs.Laws.{apart-ℕ, level-ℕ, weighed-as}
+use Rattle.quality.proofs.Clear.{strict}
 use Rattle.receiver.specs.Energy.{energyℕ, decisionOf}
 use Rattle.receiver.proofs.Energies.{decision-ℕ}
 use Rattle.margin.specs.Windows.{across, markThenSilence, isSpace}
@@ -42,31 +44,46 @@ module _ {s m : Bounds} {space mark : ℕ} (h : Enclosed s space) (l : Enclosed 
   winner true e = lt-ltb mark space (omega (arith, ltb-true (m .most) (s .least) e))
   winner false e = le-ltb mark space (omega (arith, leb-true (s .most) (m .least) e))
 
-  clear : (above : Bool) → winsSure above s m ≡ true → clearSure above s m ≡ true → Means (cond above Space Mark) space mark
-  unfolding winsSure clearSure
-  clear true e f =
-      (omega (arith, ltb-true (m .most) (s .least) e), omega (arith, leb-true (5 * m .most) (4 * s .least) f))
-  clear false e f =
-      (omega (arith, leb-true (s .most) (m .least) e), omega (arith, leb-true (5 * s .most) (4 * m .least) f))
+  -- a bit that is clear
+  module _ (clear : ℕ) where
+    clear-means : (above : Bool) → winsSure above s m ≡ true → clearSure clear above s m ≡ true → Means (cond above Space Mark) space mark
+    unfolding winsSure clearSure
+    clear-means true e f =
+        let far = leb-true (5 * m .most) (4 * s .least) (and-elim-left (leb (5 * m .most) (4 * s .least)) _ f) in
+        (omega (arith, ltb-true (m .most) (s .least) e), omega (arith, far))
+    clear-means false e f =
+        let far = leb-true (5 * s .most) (4 * m .least) (and-elim-left (leb (5 * s .most) (4 * m .least)) _ f) in
+        (omega (arith, leb-true (s .most) (m .least) e), omega (arith, far))
+
+    clear-apart : (above : Bool) → clearSure clear above s m ≡ true → clear ≤ max space mark - min space mark
+    unfolding clearSure
+    clear-apart true f = omega (arith, leb-true (clear + m .most) (s .least) (and-elim-right (leb (5 * m .most) (4 * s .least)) _ f))
+    clear-apart false f = omega (arith, leb-true (clear + s .most) (m .least) (and-elim-right (leb (5 * s .most) (4 * m .least)) _ f))
 
 -- ---- a window near the samples sent
 
-module _ (noise : ℕ) (t : Tones) where
+module _ (noise clear : ℕ) (t : Tones) where
   abbrev w : Weights
-  w = weightsOf noise t
+  w = weightsOf noise clear t
 
   module _ {sent window : List ℤ} (near : Near noise sent window) where
-    in-space : Enclosed (bounds (w .space) sent) (energyℕ window (t .space))
+    abbrev space : ℕ
+    space = energyℕ window (t .space)
+
+    abbrev mark : ℕ
+    mark = energyℕ window (t .mark)
+
+    in-space : Enclosed (bounds (w .space) sent) space
     unfolding weightsOf
     in-space = energy-enclosed noise (t .space) near
 
-    in-mark : Enclosed (bounds (w .mark) sent) (energyℕ window (t .mark))
+    in-mark : Enclosed (bounds (w .mark) sent) mark
     unfolding weightsOf
     in-mark = energy-enclosed noise (t .mark) near
 
     -- the level, from the two energies
-    level-decided : decisionOf t window .good ≡ leb level (max (energyℕ window (t .space)) (energyℕ window (t .mark)))
-    level-decided = ap (λ (d : Decision). d .good) (decision-ℕ t window) ∙ level-ℕ (energyℕ window (t .space)) (energyℕ window (t .mark))
+    level-decided : decisionOf t window .good ≡ leb level (max space mark)
+    level-decided = ap (λ (d : Decision). d .good) (decision-ℕ t window) ∙ level-ℕ space mark
 
     pub silence-decided : windowSure w silenceSure sent ≡ true → decisionOf t window .good ≡ false
     unfolding windowSure
@@ -76,16 +93,27 @@ module _ (noise : ℕ) (t : Tones) where
     unfolding windowSure
     bit-decided above e = ap (λ (d : Decision). d .space) (decision-ℕ t window) ∙ winner in-space in-mark above e
 
-    bit-clear : (above : Bool) → windowSure w (winsSure above) sent ≡ true → windowSure w (clearSure above) sent ≡ true
-        → decisionOf t window .bit ≡ cond above Space Mark
-    unfolding windowSure
-    bit-clear above e f =
-        ap (λ (d : Decision). d .bit) (decision-ℕ t window) ∙ weighed-as (energyℕ window (t .space)) (energyℕ window (t .mark)) (cond above Space Mark) (clear in-space in-mark above e f)
+    -- the bit, if it is clear: it is told, also where smaller differences are doubted
+    module _ (above : Bool) (e : windowSure w (winsSure above) sent ≡ true) (f : windowSure w (clearSure (w .clear) above) sent ≡ true) where
+      told-bit : decisionOf t window .bit ≡ cond above Space Mark
+      unfolding windowSure
+      told-bit =
+          ap (λ (d : Decision). d .bit) (decision-ℕ t window)
+          ∙ weighed-as space mark (cond above Space Mark) (clear-means in-space in-mark (w .clear) above e f)
+
+      far-apart : leZ (pos clear) (decisionOf t window .difference) ≡ true
+      unfolding windowSure weightsOf
+      far-apart =
+          ap (λ (d : Decision). leZ (pos clear) (d .difference)) (decision-ℕ t window) ∙ ap (leZ (pos clear)) (apart-ℕ space mark)
+          ∙ le-leb clear (max space mark - min space mark) (clear-apart in-space in-mark clear above f)
+
+      bit-clear : strict clear (decisionOf t window) .bit ≡ cond above Space Mark
+      bit-clear = rw far-apart told-bit
 
     -- k samples of a later bit are in the window
-    module _ (earlier later : Bool) (k : ℕ) (e : windowSure w (readSure earlier later k) sent ≡ true) where
+    module _ (earlier later : Bool) (k : ℕ) (e : windowSure w (readSure (w .clear) earlier later k) sent ≡ true) where
       abbrev tests : List Bool
-      tests = readTests earlier later k (bounds (w .space) sent) (bounds (w .mark) sent)
+      tests = readTests (w .clear) earlier later k (bounds (w .space) sent) (bounds (w .mark) sent)
 
       test-passed : (i : ℕ) → i < length tests → getD tests i true ≡ true
       unfolding windowSure readSure
@@ -107,14 +135,14 @@ module _ (noise : ℕ) (t : Tones) where
       unfolding readTests windowSure
       same-decided c = bit-decided later (rw c at (test-passed 3 (lit< tt)))
 
-      pub earlier-not-doubtful : k ≤ 3 → decisionOf t window .bit ≡ cond earlier Space Mark
+      pub earlier-clear : k ≤ 3 → strict clear (decisionOf t window) .bit ≡ cond earlier Space Mark
       unfolding readTests windowSure
-      earlier-not-doubtful h =
+      earlier-clear h =
           bit-clear earlier (rw (le-leb k 14 (omega arith)) at (test-passed 1 (lit< tt))) (rw (le-leb k 3 h) at (test-passed 4 (lit< tt)))
 
-      pub later-not-doubtful : 31 ≤ k → decisionOf t window .bit ≡ cond later Space Mark
+      pub later-clear : 31 ≤ k → strict clear (decisionOf t window) .bit ≡ cond later Space Mark
       unfolding readTests windowSure
-      later-not-doubtful h =
+      later-clear h =
           bit-clear later (rw (le-leb 19 k (omega arith)) at (test-passed 2 (lit< tt))) (rw (le-leb 31 k h) at (test-passed 5 (lit< tt)))
 
 -- ---- the windows at a phase that passed
@@ -140,9 +168,9 @@ module _ (w : Weights) (t : Tones) (p : ℕ) (passed : phaseSure w t p ≡ true)
   pair-passed (suc a) zero = bits-passed 1 0 (lit< tt) (lit< tt)
   pair-passed (suc a) (suc b) = bits-passed 1 1 (lit< tt) (lit< tt)
 
-  pub across-passed : (a b k : ℕ) → k < 32 → windowSure w (readSure (isSpace a) (isSpace b) k) (across t p a b k) ≡ true
+  pub across-passed : (a b k : ℕ) → k < 32 → windowSure w (readSure (w .clear) (isSpace a) (isSpace b) k) (across t p a b k) ≡ true
   unfolding pairSure acrossSure across
-  across-passed a b = below-at (λ k. windowSure w (readSure (isSpace a) (isSpace b) k) (across t p a b k)) 32 (pair-passed a b)
+  across-passed a b = below-at (λ k. windowSure w (readSure (w .clear) (isSpace a) (isSpace b) k) (across t p a b k)) 32 (pair-passed a b)
 
   pub silence-behind-passed : (k : ℕ) → k < 16 → windowSure w (winsSure false) (markThenSilence t p k) ≡ true
   unfolding phaseSure silenceBehindSure markThenSilence

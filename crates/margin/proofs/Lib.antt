@@ -3,4 +3,5 @@ mod Test
 mod Facts
 mod Opposite
 mod Phases
+mod Plain
 pub mod Bands

@@ -40,7 +40,7 @@ module _ (w : Weights) where
   across-opposite : (a b : Bool) (xs ys : List ℤ) → acrossSure w a b (map negℤ xs) (map negℤ ys) ≡ acrossSure w a b xs ys
   unfolding acrossSure
   across-opposite a b xs ys i =
-      passesBelow (λ k. window-opposite (readSure a b k) (drop k xs) (take k ys) (map-drop negℤ k xs) (map-take negℤ k ys) i) 32
+      passesBelow (λ k. window-opposite (readSure (w .clear) a b k) (drop k xs) (take k ys) (map-drop negℤ k xs) (map-take negℤ k ys) i) 32
 
   silence-behind-opposite : (xs : List ℤ) → silenceBehindSure w (map negℤ xs) ≡ silenceBehindSure w xs
   unfolding silenceBehindSure

@@ -1,5 +1,5 @@
 -- The phases at which a bit can begin: multiples of a stride that divides 960 and 32 times either step. If those below 960 pass the
--- test, all do (Opposite); and what a receiver then decides (Facts) is `Margins`.
+-- test, all do (Opposite); and what a receiver that doubts more then decides (Facts) is `Margins`.
 -- Assumes nothing.
 use mathlib.Core.Path.{_≡_, refl, subst, _∙_}
 use mathlib.Core.Bool.{Bool, true, false, cond, Bool·beq}
@@ -15,9 +15,11 @@ use Rattle.tones.specs.declared.Tones.{Tones}
 use Rattle.tones.specs.Bands.{stepOf}
 use Rattle.control.specs.declared.Bit.the-variants.{Mark, Space}
 use Rattle.control.specs.Rules.{bitOf}
+use Rattle.quality.proofs.Clear.{strict}
+use Rattle.receiver.specs.Energy.{decisionOf}
 use Rattle.margin.specs.Windows.{across, isSpace, Margins}
 use Rattle.margin.proofs.Test.{silenceSure, readSure, Weights, weightsOf, windowSure, phaseSure, allSure, test}
-use Rattle.margin.proofs.Facts.{silence-decided, bit-decided, carrier-decided, earlier-decided, later-decided, same-decided, earlier-not-doubtful, later-not-doubtful, across-passed, silence-behind-passed}
+use Rattle.margin.proofs.Facts.{silence-decided, bit-decided, carrier-decided, earlier-decided, later-decided, same-decided, earlier-clear, later-clear, across-passed, silence-behind-passed}
 use Rattle.margin.proofs.Opposite.{phase-opposite}
 
 same-bit : (b : Bool) → Bool·beq b b ≡ true
@@ -33,9 +35,9 @@ record Begins (stride p : ℕ) : Type 0 where
   multiple : stride ∣ p
   below : p < 1920
 
-module _ (noise : ℕ) (t : Tones) (stride count : ℕ) (whole : stride * count ≡ 960) (passed : test noise t stride count ≡ true) where
+module _ (noise clear : ℕ) (t : Tones) (stride count : ℕ) (whole : stride * count ≡ 960) (passed : test noise clear t stride count ≡ true) where
   abbrev w : Weights
-  w = weightsOf noise t
+  w = weightsOf noise clear t
 
   abbrev silence : Bool
   silence = windowSure w silenceSure (replicate 32 (pos 0))
@@ -67,7 +69,7 @@ module _ (noise : ℕ) (t : Tones) (stride count : ℕ) (whole : stride * count 
       subst (λ (q : ℕ). phaseSure w t q ≡ true) e
       (phase-opposite w t (p - 960) ∙ lower (p - 960) (dvd-sub stride (b .multiple) half-cycle) (omega arith)))
 
-  two-bits : (p : ℕ) → Begins stride p → (a b k : ℕ) → k < 32 → windowSure w (readSure (isSpace a) (isSpace b) k) (across t p a b k) ≡ true
+  two-bits : (p : ℕ) → Begins stride p → (a b k : ℕ) → k < 32 → windowSure w (readSure (w .clear) (isSpace a) (isSpace b) k) (across t p a b k) ≡ true
   two-bits p begins = across-passed w t p (all p begins)
 
   module _ (space : 32 * t .space % stride ≡ 0) (mark : 32 * t .mark % stride ≡ 0) where
@@ -75,7 +77,7 @@ module _ (noise : ℕ) (t : Tones) (stride count : ℕ) (whole : stride * count 
     bit-step zero = dvd-of-mod-eq-zero stride space
     bit-step (suc bit) = dvd-of-mod-eq-zero stride mark
 
-    pub margins-of : Margins noise t
+    pub margins-of : Margins noise t (λ w. strict clear (decisionOf t w))
     margins-of =
         record {
           Begins = Begins stride;
@@ -84,16 +86,16 @@ module _ (noise : ℕ) (t : Tones) (stride count : ℕ) (whole : stride * count 
             multiple = dvd-mod-iff stride (dvd-add stride half-cycle half-cycle) .1 (dvd-add stride (begins .multiple) (bit-step bit));
             below = mod-lt (p + 32 * stepOf t bit) (lit< tt);
           };
-          carrier = λ p begins a b k h window near. carrier-decided noise t near (isSpace a) (isSpace b) k (two-bits p begins a b k h);
+          carrier = λ p begins a b k h window near. carrier-decided noise clear t near (isSpace a) (isSpace b) k (two-bits p begins a b k h);
           earlier = λ p begins a b k h window near.
-              earlier-decided noise t near (isSpace a) (isSpace b) k (two-bits p begins a b k (omega arith)) h;
-          later = λ p begins a b k l h window near. later-decided noise t near (isSpace a) (isSpace b) k (two-bits p begins a b k h) l;
+              earlier-decided noise clear t near (isSpace a) (isSpace b) k (two-bits p begins a b k (omega arith)) h;
+          later = λ p begins a b k l h window near. later-decided noise clear t near (isSpace a) (isSpace b) k (two-bits p begins a b k h) l;
           steady = λ p begins a k h window near.
-              same-decided noise t near (isSpace a) (isSpace a) k (two-bits p begins a a k h) (same-bit (isSpace a));
+              same-decided noise clear t near (isSpace a) (isSpace a) k (two-bits p begins a a k h) (same-bit (isSpace a));
           earlier-clear = λ p begins a b k h window near.
-              earlier-not-doubtful noise t near (isSpace a) (isSpace b) k (two-bits p begins a b k (omega arith)) h ∙ bit-of a;
+              earlier-clear noise clear t near (isSpace a) (isSpace b) k (two-bits p begins a b k (omega arith)) h ∙ bit-of a;
           later-clear = λ p begins a b k l h window near.
-              later-not-doubtful noise t near (isSpace a) (isSpace b) k (two-bits p begins a b k h) l ∙ bit-of b;
-          mark-then-silence = λ p begins k h window near. bit-decided noise t near false (silence-behind-passed w t p (all p begins) k (omega arith));
-          silent = λ window near. silence-decided noise t near silence-passed;
+              later-clear noise clear t near (isSpace a) (isSpace b) k (two-bits p begins a b k h) l ∙ bit-of b;
+          mark-then-silence = λ p begins k h window near. bit-decided noise clear t near false (silence-behind-passed w t p (all p begins) k (omega arith));
+          silent = λ window near. silence-decided noise clear t near silence-passed;
         }

@@ -4,7 +4,7 @@
 -- Assumes nothing.
 use mathlib.Core.Bool.{Bool, true, false, cond, _&&_, Bool·beq}
 use mathlib.Core.List.{List, [], _∷_, _++_}
-use Prim.Native.Nat.{ℕ, _*_, max}
+use Prim.Native.Nat.{ℕ, _+_, _*_, max}
 use lib.Dec.{leb, ltb}
 use lib.IntN.{ℤ, pos}
 use lib.ListN.{take, drop, replicate}
@@ -31,38 +31,40 @@ unfoldable pub winsSure : (above : Bool) (space mark : Bounds) → Bool
 winsSure true space mark = ltb (mark .most) (space .least)
 winsSure false space mark = leb (space .most) (mark .least)
 
--- the bit is space, or mark, as `above` says, and not doubtful
-unfoldable pub clearSure : (above : Bool) (space mark : Bounds) → Bool
-clearSure true space mark = leb (5 * mark .most) (4 * space .least)
-clearSure false space mark = leb (5 * space .most) (4 * mark .least)
+-- the bit is space, or mark, as `above` says, and not doubtful, and the difference is at least `clear`
+unfoldable pub clearSure : (clear : ℕ) (above : Bool) (space mark : Bounds) → Bool
+clearSure clear true space mark = leb (5 * mark .most) (4 * space .least) && leb (clear + mark .most) (space .least)
+clearSure clear false space mark = leb (5 * space .most) (4 * mark .least) && leb (clear + space .most) (mark .least)
 
 -- k samples of a later bit are in the window: the level is good, the earlier bit is read up to 14 of them, the later from 19 on, and
--- a bit that follows itself throughout; the earlier is not doubtful up to 3 of them, nor is the later with 31; `earlier` and `later` say
+-- a bit that follows itself throughout; the earlier is clear up to 3 of them, and so is the later with 31; `earlier` and `later` say
 -- whether these bits are space
-unfoldable pub readTests : (earlier later : Bool) (k : ℕ) (space mark : Bounds) → List Bool
+unfoldable pub readTests : (clear : ℕ) (earlier later : Bool) (k : ℕ) (space mark : Bounds) → List Bool
 unfolding carrierSure winsSure clearSure
-readTests earlier later k space mark =
+readTests clear earlier later k space mark =
     carrierSure space mark
     ∷ cond (leb k 14) (winsSure earlier space mark) true
     ∷ cond (leb 19 k) (winsSure later space mark) true
     ∷ cond (Bool·beq earlier later) (winsSure later space mark) true
-    ∷ cond (leb k 3) (clearSure earlier space mark) true
-    ∷ cond (leb 31 k) (clearSure later space mark) true
+    ∷ cond (leb k 3) (clearSure clear earlier space mark) true
+    ∷ cond (leb 31 k) (clearSure clear later space mark) true
     ∷ []
 
-unfoldable pub readSure : (earlier later : Bool) (k : ℕ) (space mark : Bounds) → Bool
+unfoldable pub readSure : (clear : ℕ) (earlier later : Bool) (k : ℕ) (space mark : Bounds) → Bool
 unfolding readTests
-readSure earlier later k space mark = passes (λ i b. b) 0 (readTests earlier later k space mark)
+readSure clear earlier later k space mark = passes (λ i b. b) 0 (readTests clear earlier later k space mark)
 
 -- ---- all windows at a phase
 
+-- the weights of both tones, and the difference that is asked for where slots fall
 pub record Weights : Type 0 where
   pub space : ToneWeights
   pub mark : ToneWeights
+  pub clear : ℕ
 
-unfoldable pub weightsOf : (noise : ℕ) → Tones → Weights
+unfoldable pub weightsOf : (noise clear : ℕ) → Tones → Weights
 unfolding toneWeights
-weightsOf noise t = record { space = toneWeights noise (t .space); mark = toneWeights noise (t .mark) }
+weightsOf noise clear t = record { space = toneWeights noise (t .space); mark = toneWeights noise (t .mark); clear = clear }
 
 module _ (w : Weights) where
   unfoldable pub windowSure : ((space mark : Bounds) → Bool) → (sent : List ℤ) → Bool
@@ -72,7 +74,7 @@ module _ (w : Weights) where
   -- xs are the samples of the earlier bit, ys those of the later
   unfoldable pub acrossSure : (earlier later : Bool) (xs ys : List ℤ) → Bool
   unfolding windowSure readSure
-  acrossSure earlier later xs ys = passesBelow (λ k. windowSure (readSure earlier later k) (drop k xs ++ take k ys)) 32
+  acrossSure earlier later xs ys = passesBelow (λ k. windowSure (readSure (w .clear) earlier later k) (drop k xs ++ take k ys)) 32
 
   -- xs are the samples of a mark bit
   unfoldable pub silenceBehindSure : (xs : List ℤ) → Bool
@@ -100,6 +102,6 @@ module _ (w : Weights) where
   unfolding windowSure silenceSure phaseSure
   allSure t stride count = windowSure silenceSure (replicate 32 (pos 0)) && passesBelow (λ i. phaseSure t (stride * i)) count
 
-unfoldable pub test : (noise : ℕ) (t : Tones) (stride count : ℕ) → Bool
+unfoldable pub test : (noise clear : ℕ) (t : Tones) (stride count : ℕ) → Bool
 unfolding allSure weightsOf
-test noise t = allSure (weightsOf noise t) t
+test noise clear t = allSure (weightsOf noise clear t) t

@@ -11,12 +11,16 @@ use Rattle.integers.specs.Near.{Near}
 use Rattle.sine.specs.Wave.{wave}
 use Rattle.tones.specs.declared.Tones.{Tones}
 use Rattle.tones.specs.Bands.{stepOf}
+use Rattle.control.specs.declared.Decision.{Decision}
 use Rattle.control.specs.Rules.{bitOf}
-use Rattle.receiver.specs.Energy.{decisionOf}
 
 -- the most that a sample is altered by, either way: the specification, "Whole recordings"
 abbrev pub disturbance : ℕ
 disturbance = 100
+
+-- what the two energies then still differ by wherever a data or stop slot falls: the specification, "Quality beside each character"
+abbrev pub clearance : ℕ
+clearance = 200000000000000000
 
 -- the phase after a bit that begins at the phase p
 abbrev pub phaseAfterBit : Tones → ℕ → ℕ → ℕ
@@ -35,24 +39,25 @@ abbrev pub isSpace : ℕ → Bool
 isSpace zero = true
 isSpace (suc bit) = false
 
--- What is decided in every window of a sending by the tones t, each of whose samples is altered by at most `noise`. `Begins` holds
--- of the phases at which a bit can begin.
-pub record Margins (noise : ℕ) (t : Tones) : Type 1 where
+-- What is decided in every window of a sending by the tones t, each of whose samples is altered by at most `noise`. `decide` is what
+-- decides in a window: `decisionOf t`, as in the receiver, or a rule that doubts more; with the second the promise also says how far the
+-- energies differ where slots fall. `Begins` holds of the phases at which a bit can begin.
+pub record Margins (noise : ℕ) (t : Tones) (decide : List ℤ → Decision) : Type 1 where
   pub Begins : ℕ → Type 0
   pub first-bit : Begins 0
   pub next-bit : (p : ℕ) → Begins p → (bit : ℕ) → Begins (phaseAfterBit t p bit)
   -- the level is good in every window of two successive bits
-  pub carrier : (p : ℕ) → Begins p → (a b k : ℕ) → k < 32 → (w : List ℤ) → Near noise (across t p a b k) w → decisionOf t w .good ≡ true
+  pub carrier : (p : ℕ) → Begins p → (a b k : ℕ) → k < 32 → (w : List ℤ) → Near noise (across t p a b k) w → decide w .good ≡ true
   -- the earlier bit is read up to 14 samples of the later one, the later from 19 on, and a bit that follows itself throughout
-  pub earlier : (p : ℕ) → Begins p → (a b k : ℕ) → k ≤ 14 → (w : List ℤ) → Near noise (across t p a b k) w → decisionOf t w .space ≡ isSpace a
+  pub earlier : (p : ℕ) → Begins p → (a b k : ℕ) → k ≤ 14 → (w : List ℤ) → Near noise (across t p a b k) w → decide w .space ≡ isSpace a
   pub later : (p : ℕ) → Begins p → (a b k : ℕ) → 19 ≤ k → k < 32 → (w : List ℤ) → Near noise (across t p a b k) w
-      → decisionOf t w .space ≡ isSpace b
-  pub steady : (p : ℕ) → Begins p → (a k : ℕ) → k < 32 → (w : List ℤ) → Near noise (across t p a a k) w → decisionOf t w .space ≡ isSpace a
+      → decide w .space ≡ isSpace b
+  pub steady : (p : ℕ) → Begins p → (a k : ℕ) → k < 32 → (w : List ℤ) → Near noise (across t p a a k) w → decide w .space ≡ isSpace a
   -- where a slot falls, with up to 3 samples of the later bit or 31, the bit is not doubtful
-  pub earlier-clear : (p : ℕ) → Begins p → (a b k : ℕ) → k ≤ 3 → (w : List ℤ) → Near noise (across t p a b k) w → decisionOf t w .bit ≡ bitOf a
+  pub earlier-clear : (p : ℕ) → Begins p → (a b k : ℕ) → k ≤ 3 → (w : List ℤ) → Near noise (across t p a b k) w → decide w .bit ≡ bitOf a
   pub later-clear : (p : ℕ) → Begins p → (a b k : ℕ) → 31 ≤ k → k < 32 → (w : List ℤ) → Near noise (across t p a b k) w
-      → decisionOf t w .bit ≡ bitOf b
+      → decide w .bit ≡ bitOf b
   -- space is not above mark while at most 15 silent samples have followed a mark bit
-  pub mark-then-silence : (p : ℕ) → Begins p → (k : ℕ) → k ≤ 15 → (w : List ℤ) → Near noise (markThenSilence t p k) w → decisionOf t w .space ≡ false
+  pub mark-then-silence : (p : ℕ) → Begins p → (k : ℕ) → k ≤ 15 → (w : List ℤ) → Near noise (markThenSilence t p k) w → decide w .space ≡ false
   -- silence has no good level
-  pub silent : (w : List ℤ) → Near noise (replicate 32 (pos 0)) w → decisionOf t w .good ≡ false
+  pub silent : (w : List ℤ) → Near noise (replicate 32 (pos 0)) w → decide w .good ≡ false

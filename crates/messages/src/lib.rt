@@ -22,9 +22,19 @@ pub extern "C" fn modem_loopback(
     block: usize,
     samples: &mut [i16],
     events: &mut [u16],
+    differences: &mut [i64],
 ) -> Answer
-    ensures { λ r. ⌜ outcome r tt (lists (now (samples .exit)) (now (events .exit)))
-        ≡ loopbackOf band (now (bytes .entry)) (now (disturbance .entry)) block (lists (now (samples .entry)) (now (events .entry))) ⌝ }
+    ensures { λ r. ⌜ outcome r tt (lists (now (samples .exit)) (now (events .exit)) (now (differences .exit)))
+        ≡ loopbackOf band (now (bytes .entry)) (now (disturbance .entry)) block
+        (lists (now (samples .entry)) (now (events .entry)) (now (differences .entry))) ⌝ }
 {
-    loopback::loopback(band, bytes, disturbance, block, samples, events)
+    loopback::loopback(
+        band,
+        bytes,
+        disturbance,
+        block,
+        samples,
+        events,
+        differences,
+    )
 }

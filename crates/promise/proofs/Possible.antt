@@ -87,7 +87,7 @@ texts-bytes (t ∷ texts) (more h hs) = all-append (h .bytes) (texts-bytes texts
 record ReadFits (c : reading.Call) : Type 0 where
   few : length (c .samples) ≤ mostSamples
   samples : areSamples (c .samples) ≡ true
-  room : receiver.placesFor (length (c .samples)) ≤ length (c .lent)
+  room : receiver.placesFor (length (c .samples)) ≤ receiver.shorter (c .lent)
 
 read-accepts : (s : Receiver) (c : reading.Call) → receiver.inRange s ≡ true → ReadFits c
     → Accepts (λ (t : Receiver). receiver.inRange t ≡ true) (reading.callOf s c)
@@ -102,7 +102,8 @@ blocks-fit (block ∷ blocks) (more l ls) h =
     let xs : List ℤ = block .samples in
     let both = sym (samples-append xs (joinedBlocks blocks)) ∙ h in
     let places : ℕ = receiver.placesFor (length xs) in
-    let room : places ≤ length (replicate {A = ℕ} places 0) = omega (arith, length-replicate {A = ℕ} places 0) in
+    let room : places ≤ receiver.shorter (replicate places 0, replicate places (pos 0)) =
+    omega (arith, length-replicate {A = ℕ} places 0, length-replicate {A = ℤ} places (pos 0)) in
     more (record { few = l; samples = and-elim-left (areSamples xs) (areSamples (joinedBlocks blocks)) both; room = room })
     (blocks-fit blocks ls (and-elim-right (areSamples xs) (areSamples (joinedBlocks blocks)) both))
 

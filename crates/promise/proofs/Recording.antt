@@ -1,5 +1,5 @@
 -- A whole recording, phase by phase: silence, leader, characters, trailer, silence. In every disturbed form of it the receiver gives
--- the characters. Each lemma goes from the phase that it names to the end.
+-- the characters, and so does every receiver whose decisions have the margins. Each lemma goes from the phase that it names to the end.
 -- Assumes nothing.
 use mathlib.Core.Path.{_≡_, refl, sym, ap, _∙_, subst}
 use mathlib.Core.Bool.{false}
@@ -18,10 +18,10 @@ use Rattle.sine.proofs.Wave.{length-wave}
 use Rattle.tones.specs.declared.Tones.{Tones}
 use Rattle.transmitter.specs.Samples.{send, bitSteps, sendBits, idleBits, dataBits, charBits, charactersBits, messageBits}
 use Rattle.transmitter.proofs.Laws.{bitAt, length-char}
+use Rattle.control.specs.declared.Decision.{Decision}
 use Rattle.control.specs.declared.Stage.the-variants.{Searching}
 use Rattle.control.specs.declared.Control.{Control}
 use Rattle.control.specs.Rules.{reports}
-use Rattle.receiver.specs.Energy.{decisionOf}
 use Rattle.receiver.proofs.Windows.{decisions-none}
 use Rattle.margin.specs.Windows.{phaseAfterBit, markThenSilence, Margins}
 use Rattle.promise.specs.Recordings.{AreBytes, silence}
@@ -32,12 +32,12 @@ use Rattle.promise.proofs.Phases.{Silent, silent, silent-step, FirstBit
 use Rattle.promise.proofs.Phases.{AfterTrailer, still-searching, after-trailer-step, after-trailer-due}
 use Rattle.promise.proofs.Characters.{BetweenCharacters, none-due, stop-due, stays-between, bitBefore, Underway, before, underway-step, leave}
 
-module _ {noise : ℕ} (t : Tones) (M : Margins noise t) (m : ℕ) where
+module _ {noise : ℕ} (t : Tones) {decide : List ℤ → Decision} (M : Margins noise t decide) (m : ℕ) where
   abbrev ReadAs : List ℤ → Control → List ℕ → Type 0
-  ReadAs = Gives noise (decisionOf t)
+  ReadAs = Gives noise decide
 
   abbrev pub ReadFrom : Invariant → List ℤ → Type 0
-  ReadFrom = GivesFrom noise (decisionOf t)
+  ReadFrom = GivesFrom noise decide
 
   -- the sending from the bit a on, which begins at the phase p
   abbrev pub sending : ℕ → ℕ → List ℕ → List ℤ
@@ -52,13 +52,13 @@ module _ {noise : ℕ} (t : Tones) (M : Margins noise t) (m : ℕ) where
     long = length-append last (silence m) ∙ omega (arith, length-wave 32 (t .mark) p, length-replicate m (pos 0))
 
     -- space is not above mark at first, and behind the trailer there is no good level
-    at-first : (k : ℕ) → k < m + 1 → k ≤ 15 → (w : List ℤ) → Near noise (take 32 (drop k (last ++ silence m))) w → decisionOf t w .space ≡ false
+    at-first : (k : ℕ) → k < m + 1 → k ≤ 15 → (w : List ℤ) → Near noise (take 32 (drop k (last ++ silence m))) w → decide w .space ≡ false
     unfolding markThenSilence
     at-first k h l w n =
         M .mark-then-silence p begins k l w
         (subst (λ (c : List ℤ). Near noise c w) (mark-then-silence-window last (length-wave 32 (t .mark) p) m k (omega arith) (omega arith)) n)
 
-    afterwards : (k : ℕ) → k < m + 1 → 32 ≤ k → (w : List ℤ) → Near noise (take 32 (drop k (last ++ silence m))) w → decisionOf t w .good ≡ false
+    afterwards : (k : ℕ) → k < m + 1 → 32 ≤ k → (w : List ℤ) → Near noise (take 32 (drop k (last ++ silence m))) w → decide w .good ≡ false
     afterwards k h l w n =
         M .silent w (subst (λ (c : List ℤ). Near noise c w) (silent-behind last (length-wave 32 (t .mark) p) m k (omega arith) l) n)
 
@@ -66,14 +66,14 @@ module _ {noise : ℕ} (t : Tones) (M : Margins noise t) (m : ℕ) where
     nothing : ReadFrom (AfterTrailer (m + 1)) (drop (m + 1) (last ++ silence m))
     unfolding gives
     nothing s X f zs n =
-        ap (reports s) (decisions-none (decisionOf t) zs (omega (arith, near-length n, length-drop (m + 1) (last ++ silence m), long)))
+        ap (reports s) (decisions-none decide zs (omega (arith, near-length n, length-drop (m + 1) (last ++ silence m), long)))
         ∙ after-trailer-due f
 
     from-last : ReadAs (sending p 1 []) (at 32 Searching) []
     unfolding send bitSteps
     from-last =
-        along noise (decisionOf t) (last ++ silence m) (m + 1) (omega (arith, long)) AfterTrailer
-        (λ k h w n. after-trailer-step k (decisionOf t w) (λ l. at-first k h l w n) (λ l. afterwards k h l w n)) nothing (at 32 Searching) [] (still-searching 32)
+        along noise decide (last ++ silence m) (m + 1) (omega (arith, long)) AfterTrailer
+        (λ k h w n. after-trailer-step k (decide w) (λ l. at-first k h l w n) (λ l. afterwards k h l w n)) nothing (at 32 Searching) [] (still-searching 32)
 
   -- ---- a mark behind a mark: what was stop-due is given
   pub through-mark : (p : ℕ) → M .Begins p → (bits Y : List ℕ) → ReadAs (sending (phaseAfterBit t p 1) 1 bits) (at 32 Searching) Y
@@ -152,8 +152,8 @@ module _ {noise : ℕ} (t : Tones) (M : Margins noise t) (m : ℕ) where
 
     from-first-bit : ReadAs (silence 31 ++ sent) (at 0 Searching) cs
     from-first-bit =
-        along noise (decisionOf t) (silence 31 ++ sent) 31 (omega (arith, long-sent)) (FirstBit cs)
-        (λ k h w n. first-bit-step cs k h (decisionOf t w)) first-bit-over (at 0 Searching) cs (short-run 0 (omega arith))
+        along noise decide (silence 31 ++ sent) 31 (omega (arith, long-sent)) (FirstBit cs)
+        (λ k h w n. first-bit-step cs k h (decide w)) first-bit-over (at 0 Searching) cs (short-run 0 (omega arith))
       where
         first-bit-over : ReadFrom (FirstBit cs 31) (drop 31 (silence 31 ++ sent))
         first-bit-over s X (short-run run l) = from-leader (at run Searching) cs (growing-run run (omega arith) (omega arith))
@@ -162,7 +162,7 @@ module _ {noise : ℕ} (t : Tones) (M : Margins noise t) (m : ℕ) where
     pub recorded-bits : (n : ℕ) → ReadAs (silence 31 ++ (silence n ++ (sendBits t 0 (idleBits ++ message) ++ silence m))) (at 0 Searching) cs
     recorded-bits n =
         subst (λ (clean : List ℤ). ReadAs clean (at 0 Searching) cs) (sym order)
-        (along noise (decisionOf t) (silence n ++ (silence 31 ++ sent)) n long (Silent cs) quiet-window rest (at 0 Searching) cs silent)
+        (along noise decide (silence n ++ (silence 31 ++ sent)) n long (Silent cs) quiet-window rest (at 0 Searching) cs silent)
       where
         order : silence 31 ++ (silence n ++ (sendBits t 0 (idleBits ++ message) ++ silence m)) ≡ silence n ++ (silence 31 ++ sent)
         order =
@@ -174,9 +174,9 @@ module _ {noise : ℕ} (t : Tones) (M : Margins noise t) (m : ℕ) where
         long = omega (arith, length-append (silence n) (silence 31 ++ sent), length-replicate n (pos 0))
 
         quiet-window : (k : ℕ) → k < n → (w : List ℤ) → Near noise (take 32 (drop k (silence n ++ (silence 31 ++ sent)))) w
-            → Keeps (Silent cs k) (decisionOf t w) (Silent cs (suc k))
+            → Keeps (Silent cs k) (decide w) (Silent cs (suc k))
         quiet-window k h w near =
-            silent-step cs k (decisionOf t w)
+            silent-step cs k (decide w)
             (M .silent w
             (subst (λ (c : List ℤ). Near noise c w) (ap (λ (xs : List ℤ). take 32 (drop k xs)) (silences n 31 sent) ∙ silent-window (n + 31) k sent (omega arith)) near))
 

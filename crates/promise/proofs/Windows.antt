@@ -1,15 +1,17 @@
 -- The windows of a recording: those over two bits, those inside a silence and those over the end of the trailer, and what is read
--- in them. From the margins.
+-- in them, whatever decides there. From the margins.
 -- Assumes nothing.
-use mathlib.Core.Path.{_≡_, sym, ap, ap₂, _∙_, subst}
+use mathlib.Core.Path.{_≡_, refl, sym, ap, ap₂, _∙_, subst}
 use mathlib.Core.Bool.{true}
-use mathlib.Core.List.{List, [], _∷_, _++_, append-assoc, append-nil}
+use mathlib.Core.List.{List, [], _∷_, _++_, map, append-assoc, append-nil}
 use Prim.Native.Nat.{ℕ, suc, _+_, _-_, _≤_, _<_}
 use native.Mathlib.Omega.{arith}
+use borrow.Author.Tests.{lt-ltb, le-ltb}
 use lib.IntN.{ℤ, pos}
 use lib.ListN.{length, take, drop, length-append, length-drop, length-replicate, replicate-append-replicate}
 use lib.Seq.{take-all, drop-at, drop-append-le, drop-append-add, take-append-le, take-append-add}
 use Rattle.integers.specs.Near.{Near}
+use Rattle.integers.proofs.Tests.{lt-or-le}
 use Rattle.sine.specs.Wave.{wave}
 use Rattle.sine.proofs.Wave.{length-wave}
 use Rattle.tones.specs.declared.Tones.{Tones}
@@ -17,11 +19,20 @@ use Rattle.tones.specs.Bands.{stepOf}
 use Rattle.transmitter.specs.Samples.{sendBits}
 use Rattle.transmitter.proofs.Laws.{send-bits-append, send-bit, phase-bit}
 use Rattle.control.specs.declared.Decision.{Decision}
-use Rattle.receiver.specs.Energy.{decisionOf}
+use Rattle.receiver.specs.Windows.{decisions}
 use Rattle.margin.specs.Windows.{phaseAfterBit, across, Margins}
 use Rattle.promise.specs.Recordings.{silence}
 use Rattle.promise.proofs.Steps.{Reads, Clear, Invariant, Keeps}
 use Rattle.promise.proofs.Along.{GivesFrom, along}
+
+-- a change of every decision is a change of what decides
+pub decisions-map : (f : Decision → Decision) (decide : List ℤ → Decision) (zs : List ℤ) → map f (decisions decide zs) ≡ decisions (λ w. f (decide w)) zs
+unfolding decisions
+decisions-map f decide [] = refl
+decisions-map f decide (z ∷ zs) =
+    lt-or-le (length zs) 31
+    (λ h. rw (lt-ltb (length zs) 31 h))
+    (λ h. rw (le-ltb (length zs) 31 h) (ap (λ (ds : List Decision). f (decide (take 32 (z ∷ zs))) ∷ ds) (decisions-map f decide zs)))
 
 -- one silence behind another
 pub silences : (n m : ℕ) (more : List ℤ) → silence n ++ (silence m ++ more) ≡ silence (n + m) ++ more
@@ -72,10 +83,10 @@ pub record ReadAcross (a b k : ℕ) (d : Decision) : Type 0 where
   pub earlier-clear : k ≤ 3 → Clear d a
   pub later-clear : 31 ≤ k → Clear d b
 
-module _ {noise : ℕ} (t : Tones) (M : Margins noise t) where
-  read-across : (p : ℕ) → M .Begins p → (a b k : ℕ) → k < 32 → (w : List ℤ) → Near noise (across t p a b k) w → ReadAcross a b k (decisionOf t w)
+module _ {noise : ℕ} (t : Tones) {decide : List ℤ → Decision} (M : Margins noise t decide) where
+  read-across : (p : ℕ) → M .Begins p → (a b k : ℕ) → k < 32 → (w : List ℤ) → Near noise (across t p a b k) w → ReadAcross a b k (decide w)
   read-across p s a b k h w n =
-      let d : Decision = decisionOf t w in
+      let d : Decision = decide w in
       let good : d .good ≡ true = M .carrier p s a b k h w n in
       record {
         good = good;
@@ -101,7 +112,7 @@ module _ {noise : ℕ} (t : Tones) (M : Margins noise t) where
   -- The 32 windows from the bit a to the bit b behind it keep an invariant, and from b on what is then due is given.
   module _ (p : ℕ) (begins : M .Begins p) (a b : ℕ) (bits : List ℕ) (m : ℕ) (I : ℕ → Invariant)
       (step : (k : ℕ) → k < 32 → (d : Decision) → ReadAcross a b k d → Keeps (I k) d (I (suc k)))
-      (rest : GivesFrom noise (decisionOf t) (I 32) (sentFrom (phaseAfterBit t p a) b bits m)) where
+      (rest : GivesFrom noise decide (I 32) (sentFrom (phaseAfterBit t p a) b bits m)) where
     abbrev first : List ℤ
     first = wave 32 (stepOf t a) p
 
@@ -116,10 +127,10 @@ module _ {noise : ℕ} (t : Tones) (M : Margins noise t) where
     two-bits k h =
         window first second more k (length-wave 32 (stepOf t a) p) (omega arith) (omega (arith, length-wave 32 (stepOf t b) (phaseAfterBit t p a)))
 
-    pub through-bit : GivesFrom noise (decisionOf t) (I 0) (sentFrom p a (b ∷ bits) m)
+    pub through-bit : GivesFrom noise decide (I 0) (sentFrom p a (b ∷ bits) m)
     through-bit =
-        subst (GivesFrom noise (decisionOf t) (I 0)) (ap (λ (xs : List ℤ). first ++ xs) (sym (sent-next (phaseAfterBit t p a) b bits m)))
-        (along noise (decisionOf t) (first ++ (second ++ more)) 32
+        subst (GivesFrom noise decide (I 0)) (ap (λ (xs : List ℤ). first ++ xs) (sym (sent-next (phaseAfterBit t p a) b bits m)))
+        (along noise decide (first ++ (second ++ more)) 32
         (omega (arith, length-append first (second ++ more), length-append second more, length-wave 32 (stepOf t a) p, length-wave 32 (stepOf t b) (phaseAfterBit t p a)))
-        I (λ k h w n. step k h (decisionOf t w) (read-across p begins a b k h w (subst (λ (c : List ℤ). Near noise c w) (two-bits k h) n)))
-        (subst (GivesFrom noise (decisionOf t) (I 32)) (sym (drop-at first (second ++ more) 32 (length-wave 32 (stepOf t a) p))) rest))
+        I (λ k h w n. step k h (decide w) (read-across p begins a b k h w (subst (λ (c : List ℤ). Near noise c w) (two-bits k h) n)))
+        (subst (GivesFrom noise decide (I 32)) (sym (drop-at first (second ++ more) 32 (length-wave 32 (stepOf t a) p))) rest))

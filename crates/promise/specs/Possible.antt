@@ -5,7 +5,7 @@ use mathlib.Core.Path.{_≡_}
 use mathlib.Core.Bool.{true}
 use mathlib.Core.List.{List, [], _∷_, _++_}
 use Prim.Native.Nat.{ℕ, _*_, _≤_}
-use lib.IntN.{ℤ}
+use lib.IntN.{ℤ, pos}
 use lib.ListN.{length, replicate}
 use Rattle.integers.specs.All.{All}
 use Rattle.integers.specs.Near.{altered}
@@ -39,8 +39,8 @@ pub record Block : Type 0 where
 abbrev pub blockCalls : List Block → List reading.Call
 blockCalls [] = []
 blockCalls (block ∷ blocks) =
-    record { entry = block .entry; samples = block .samples; lent = replicate (receiver.placesFor (length (block .samples))) 0 }
-    ∷ blockCalls blocks
+    let places : ℕ = receiver.placesFor (length (block .samples)) in
+    record { entry = block .entry; samples = block .samples; lent = (replicate places 0, replicate places (pos 0)) } ∷ blockCalls blocks
 
 -- ---- what there is
 

@@ -3,42 +3,43 @@
 -- Assumes nothing.
 use mathlib.Core.Path.{_≡_, sym, ap, _∙_}
 use mathlib.Core.Bool.{true}
-use mathlib.Core.List.{List, _++_}
+use mathlib.Core.List.{List, _++_, map}
 use mathlib.Mathlib.Data.Bool.Basic.{and-intro}
 use Prim.Native.Nat.{ℕ, _+_, _-_, _<_, _≤_, min}
 use native.Mathlib.Omega.{arith}
 use borrow.Author.Tests.{lt-ltb, le-ltb}
 use lib.IntN.{ℤ}
-use lib.ListN.{length, take, drop, length-drop}
+use lib.ListN.{length, take, drop, length-drop, length-map}
 use lib.Seq.{sets, take-all, take-at, drop-drop, take-append-add, drop-append-le, drop-append-add}
 use Rattle.integers.proofs.Tests.{lt-or-le}
 use Rattle.integers.proofs.Lists.{sets-front, drop-take, same-front}
-use Rattle.calls.specs.Outcome.{outcome, accepted}
+use Rattle.calls.specs.Outcome.{outcome, over, acceptedIn}
 use Rattle.calls.proofs.Indexed.{indices}
 use Rattle.sine.specs.Wave.{weightsOf}
 use Rattle.tones.specs.Bands.{tonesOf}
 use Rattle.tones.specs.Samples.{areSamples}
 use Rattle.tones.proofs.Samples.{samples-append, samples-drop}
 use Rattle.control.specs.declared.Decision.{Decision}
-use Rattle.control.specs.Rules.{reports}
+use Rattle.quality.specs.Quality.{measures}
+use Rattle.quality.proofs.Laws.{numbers-part}
 use Rattle.receiver.specs.declared.scan.Reached.{Reached}
 use Rattle.receiver.specs.declared.Receiver.{Receiver}
-use Rattle.receiver.specs.Step.{controlOf, stateAfter, eventsAfter, indexedAfter}
+use Rattle.receiver.specs.Step.{trackedOf, stateAfter, measuredAfter, indexedAfter}
 use Rattle.receiver.specs.Windows.{decisions}
-use Rattle.receiver.specs.Calls.{inRange, placesFor}
-use Rattle.receiver.specs.AsCoded.{decisionBy, reportIndices, reachedBy, lastWindow, recorded, IsSource, decisionsBy}
+use Rattle.receiver.specs.Calls.{inRange, placesFor, EventLists, twoLists}
+use Rattle.receiver.specs.AsCoded.{decisionBy, numbersOf, differencesOf, indicesBy, reachedBy, lastWindow, recorded, IsSource, decisionsBy}
 use Rattle.receiver.proofs.Energies.{decision-by, bank-of}
 use Rattle.receiver.proofs.Ranges.{in-range}
 use Rattle.receiver.proofs.Counting.{events-few}
-use Rattle.receiver.proofs.Windows.{decisionsOver, by-windows, band-after, window-after}
+use Rattle.receiver.proofs.Windows.{decisionsOver, by-windows, measured-windows, band-after, window-after}
 
 -- ---- a block that is accepted
 
-pub record Accepted (s : Receiver) (xs : List ℤ) (lent : List ℕ) : Type 0 where
+pub record Accepted (s : Receiver) (xs : List ℤ) (lent : EventLists) : Type 0 where
   pub range : inRange s ≡ true
   pub long : length (s .window) ≡ 32
   pub samples : areSamples xs ≡ true
-  pub room : placesFor (length xs) ≤ length lent
+  pub room : (placesFor (length xs) ≤ length (lent .0)) × (placesFor (length xs) ≤ length (lent .1))
 
 -- its head: the window, with the first n samples behind it
 pub record Head (s : Receiver) (xs : List ℤ) (n : ℕ) (head : List ℤ) : Type 0 where
@@ -46,7 +47,7 @@ pub record Head (s : Receiver) (xs : List ℤ) (n : ℕ) (head : List ℤ) : Typ
   pub long : length head ≡ 64
   pub whole : take (32 + n) head ≡ s .window ++ take n xs
 
-module _ {s : Receiver} {xs : List ℤ} {lent : List ℕ} {n : ℕ} {head : List ℤ} (a : Accepted s xs lent) (h : Head s xs n head) where
+module _ {s : Receiver} {xs : List ℤ} {lent : EventLists} {n : ℕ} {head : List ℤ} (a : Accepted s xs lent) (h : Head s xs n head) where
   -- the last 31 samples before the block, and with the block
   abbrev old : List ℤ
   old = drop 1 (s .window)
@@ -111,35 +112,67 @@ module _ {s : Receiver} {xs : List ℤ} {lent : List ℕ} {n : ℕ} {head : List
 
   -- ---- by the decisions at its windows
 
-  pub block-room : length (reports (controlOf s) (decisionsOver s xs)) ≤ length lent
-  block-room = omega (arith, events-few s xs (a .range), a .room, ap length (by-windows s xs (a .long) .events))
+  -- its events, each with its difference
+  abbrev all-told : List (ℕ × ℤ)
+  all-told = measures (trackedOf s) (decisionsOver s xs)
 
-  module _ (q : Reached) (eq : q ≡ reachedBy (controlOf s) (decisionsOver s xs)) (events : List ℕ)
-      (ee : events ≡ sets lent 0 (reports (controlOf s) (decisionsOver s xs))) (window : List ℤ) (ew : window ≡ lastWindow head xs) where
-    told : eventsAfter s xs ≡ reports (controlOf s) (decisionsOver s xs)
-    told = by-windows s xs (a .long) .events
+  told-few : length all-told ≤ placesFor (length xs)
+  told-few =
+      omega (
+        arith,
+        events-few s xs (a .range),
+        ap length (by-windows s xs (a .long) .events),
+        ap length (numbers-part (trackedOf s) (decisionsOver s xs)),
+        length-map all-told (λ (e : ℕ × ℤ). e .0),
+      )
 
-    q-control : q .control ≡ controlOf (stateAfter s xs)
-    q-control = ap (λ (u : Reached). u .control) eq ∙ sym (by-windows s xs (a .long) .control)
+  pub block-room : (length all-told ≤ length (lent .0)) × (length all-told ≤ length (lent .1))
+  block-room = (omega (arith, told-few, a .room .0), omega (arith, told-few, a .room .1))
 
-    q-count : q .count ≡ length (eventsAfter s xs)
-    q-count = ap (λ (u : Reached). u .count) eq ∙ ap length (sym told)
+  module _ (r : Reached) (er : r ≡ reachedBy (trackedOf s) (decisionsOver s xs))
+      (events : List ℕ) (ee : events ≡ sets (lent .0) 0 (numbersOf all-told))
+      (differences : List ℤ) (ed : differences ≡ sets (lent .1) 0 (differencesOf all-told))
+      (window : List ℤ) (ew : window ≡ lastWindow head xs) where
+    told : measuredAfter s xs ≡ all-told
+    told = measured-windows s xs (a .long)
 
-    stored : events ≡ eventsAfter s xs ++ drop (length (eventsAfter s xs)) lent
-    stored = ee ∙ ap (sets lent 0) (sym told) ∙ sets-front (eventsAfter s xs) lent (omega (arith, block-room, ap length told))
+    r-state : r .state ≡ trackedOf (stateAfter s xs)
+    r-state = ap (λ (u : Reached). u .state) er ∙ sym (by-windows s xs (a .long) .tracked)
 
-    pub block-read : outcome (record { number = 0; count = q .count }) (record { band = s .band; window = window; run = q .control .run; stage = q .control .stage }) events
-        ≡ accepted (stateAfter s xs) (eventsAfter s xs) lent
+    r-count : r .count ≡ length (measuredAfter s xs)
+    r-count = ap (λ (u : Reached). u .count) er ∙ ap length (sym told)
+
+    -- one of the lists, from its side of the events
+    stored : {A : Type 0} (f : ℕ × ℤ → A) (given left : List A) → length all-told ≤ length given → left ≡ sets given 0 (map f all-told)
+        → left ≡ over (map f (measuredAfter s xs)) given
+    stored f given left h e =
+        e ∙ ap (λ (l : List (ℕ × ℤ)). sets given 0 (map f l)) (sym told)
+        ∙ sets-front (map f (measuredAfter s xs)) given (omega (arith, length-map (measuredAfter s xs) f, ap length told))
+
+    pub block-read : outcome (record { number = 0; count = r .count })
+        (record { band = s .band; window = window; run = r .state .control .run; stage = r .state .control .stage; smallest = r .state .smallest })
+        (events, differences)
+        ≡ acceptedIn twoLists (stateAfter s xs) (measuredAfter s xs) lent
     block-read i =
         record {
           number = 0;
-          count = q-count i;
+          count = r-count i;
           state =
-              record { band = sym (band-after s xs) i; window = (ew ∙ last-is) i; run = q-control i .run; stage = q-control i .stage };
-          lent = stored i;
+              record {
+                band = sym (band-after s xs) i;
+                window = (ew ∙ last-is) i;
+                run = r-state i .control .run;
+                stage = r-state i .control .stage;
+                smallest = r-state i .smallest;
+              };
+          lent = (
+            stored (λ (e : ℕ × ℤ). e .0) (lent .0) events (block-room .0) ee i,
+            stored (λ (e : ℕ × ℤ). e .1) (lent .1) differences (block-room .1) ed i,
+          );
         }
 
   -- the indices of its events
-  pub block-indices : (ix told : List ℕ) → told ≡ sets ix 0 (reportIndices (controlOf s) (decisionsOver s xs))
+  pub block-indices : (ix told : List ℕ) → told ≡ sets ix 0 (indicesBy (trackedOf s) (decisionsOver s xs))
       → told ≡ sets ix 0 (indices (indexedAfter s xs))
-  block-indices ix told e = e ∙ ap (λ (l : List (ℕ × ℕ)). sets ix 0 (indices l)) (sym (by-windows s xs (a .long) .indexed 0))
+  block-indices ix told e =
+      e ∙ ap (λ (l : List ((ℕ × ℤ) × ℕ)). sets ix 0 (indices l)) (sym (by-windows s xs (a .long) .indexed 0))

@@ -3,7 +3,7 @@
 use mathlib.Core.Path.{_≡_, refl, sym, ap, _∙_}
 use mathlib.Core.Bool.{Bool, true, cond}
 use mathlib.Core.List.{List}
-use Prim.Native.Nat.{ℕ, zero, suc, _≤_, min}
+use Prim.Native.Nat.{ℕ, zero, suc, _≤_}
 use native.Mathlib.Omega.{arith}
 use borrow.Author.Tests.{le-ltb, ltb-false, ne-eqb, not-false}
 use lib.Dec.{eqb, eqb·suc-zero}
@@ -16,13 +16,14 @@ use Rattle.calls.specs.Refusals.{firstOf}
 use Rattle.calls.specs.Outcome.{Outcome, outcome, refused, over, acceptedIn, oneList, bothIn, accepted}
 use Rattle.calls.proofs.Refusals.{NoneHolds, none-holds, not-refused, is-refused, refused-or}
 use Rattle.calls.proofs.Indexed.{values, indices, indexed-values}
+use Rattle.calls.proofs.Lists.{Keeps, one-keeps, both-keep}
 use Rattle.tones.specs.Samples.{mostSamples, areSamples}
 use Rattle.receiver.specs.declared.Reading.{Reading}
 use Rattle.receiver.specs.declared.Receiver.{Receiver}
-use Rattle.receiver.specs.Step.{afterSample, eventsAt, stateAfter, eventsAfter, indexedAfter}
-use Rattle.receiver.specs.Calls.{inRange, placesFor, testsOf, blockTests, blockOf, indexedOf}
+use Rattle.receiver.specs.Step.{afterSample, measuredAt, stateAfter, eventsAfter, measuredAfter, indexedAfter}
+use Rattle.receiver.specs.Calls.{inRange, placesFor, testsOf, blockTests, EventLists, twoLists, shorter, blockOf, shortest, indexedOf}
 use Rattle.receiver.specs.AsCoded.{blockIn, indicesIn}
-use Rattle.receiver.proofs.Counting.{events-few}
+use Rattle.receiver.proofs.Counting.{measured-numbers, measured-few}
 
 -- the tests of a block, if none holds
 module _ (range : Bool) (xs : List ℤ) (needed places : ℕ) where
@@ -47,6 +48,10 @@ module _ (range : Bool) (xs : List ℤ) (needed places : ℕ) where
   pub tests-0 : Passed → firstOf (testsOf range xs needed places) ≡ 0
   tests-0 k = simp (k .ranged, le-ltb mostSamples (length xs) (k .few), k .sound, le-ltb places needed (k .room))
 
+-- the two lists keep what is put to their front
+pub two-keep : Keeps twoLists
+two-keep = both-keep one-keeps one-keeps
+
 module _ (s : Receiver) (xs : List ℤ) where
   abbrev pub Readable : ℕ → Type 0
   Readable places = Passed (inRange s) xs (placesFor (length xs)) places
@@ -54,94 +59,114 @@ module _ (s : Receiver) (xs : List ℤ) where
   pub block-known : (places : ℕ) → firstOf (blockTests s xs places) ≡ 0 → Readable places
   block-known places e = tests-known (inRange s) xs (placesFor (length xs)) places e
 
-  module _ (lent : List ℕ) where
-    pub block-0 : inRange s ≡ true → length xs ≤ mostSamples → areSamples xs ≡ true → placesFor (length xs) ≤ length lent
-        → blockOf s xs lent ≡ accepted (stateAfter s xs) (eventsAfter s xs) lent
+  -- what it gives if no test holds
+  abbrev pub read : EventLists → Outcome Receiver EventLists
+  read = acceptedIn twoLists (stateAfter s xs) (measuredAfter s xs)
+
+  module _ (lent : EventLists) where
+    pub block-0 : inRange s ≡ true → length xs ≤ mostSamples → areSamples xs ≡ true → placesFor (length xs) ≤ shorter lent
+        → blockOf s xs lent ≡ read lent
     unfolding blockOf
     block-0 r l a p =
-        not-refused (blockTests s xs (length lent)) s lent (accepted (stateAfter s xs) (eventsAfter s xs) lent)
-        (tests-0 (inRange s) xs (placesFor (length xs)) (length lent) (record { ranged = r; few = l; sound = a; room = p }))
+        not-refused (blockTests s xs (shorter lent)) s lent (read lent)
+        (tests-0 (inRange s) xs (placesFor (length xs)) (shorter lent) (record { ranged = r; few = l; sound = a; room = p }))
 
     -- what holds of every refusal and of an accepted call holds of a call
-    pub block-case : (P : Outcome Receiver (List ℕ) → Type 0) → ((n : ℕ) → P (refused (suc n) s lent))
-        → (Readable (length lent) → P (accepted (stateAfter s xs) (eventsAfter s xs) lent)) → P (blockOf s xs lent)
+    pub block-case : (P : Outcome Receiver EventLists → Type 0) → ((n : ℕ) → P (refused (suc n) s lent))
+        → (Readable (shorter lent) → P (read lent)) → P (blockOf s xs lent)
     unfolding blockOf
     block-case P refuses reads =
-        refused-or (blockTests s xs (length lent)) s lent (accepted (stateAfter s xs) (eventsAfter s xs) lent) P refuses
-        (λ e. reads (block-known (length lent) e))
+        refused-or (blockTests s xs (shorter lent)) s lent (read lent) P refuses (λ e. reads (block-known (shorter lent) e))
 
-  -- ---- what the code gives, with so many places of the list
+  -- ---- for callers that use the numbers alone
 
-  module _ (places : ℕ) (lent ix : List ℕ) where
+  -- an outcome without the differences
+  abbrev pub numbersAlone : Outcome Receiver EventLists → Outcome Receiver (List ℕ)
+  numbersAlone o = record { number = o .number; count = o .count; state = o .state; lent = o .lent .0 }
+
+  pub read-numbers : (lent : EventLists) → numbersAlone (read lent) ≡ accepted (stateAfter s xs) (eventsAfter s xs) (lent .0)
+  read-numbers lent i =
+      let told : List (ℕ × ℤ) = measuredAfter s xs in
+      let numbers = measured-numbers s xs in
+      record {
+        number = 0;
+        count = (sym (length-map told (λ (e : ℕ × ℤ). e .0)) ∙ ap length numbers) i;
+        state = stateAfter s xs;
+        lent = over (numbers i) (lent .0);
+      }
+
+  -- ---- what the code gives, with so many places of the lists
+
+  module _ (places : ℕ) (lent : EventLists) (ix : List ℕ) where
     -- with the number of a refusal
     pub refused-in : (r : Reading) (n : ℕ) → n ≡ firstOf (blockTests s xs places) → (n ≡ 0 → ⊥)
         → r ≡ record { receiver = s; answer = record { number = n; count = 0 } }
         → (outcome (r .answer) (r .receiver) lent ≡ blockIn s xs places lent) × (ix ≡ indicesIn s xs places ix)
     refused-in r n e h q = (
-      ap (λ (x : Reading). outcome (x .answer) (x .receiver) lent) q
-          ∙ is-refused (blockTests s xs places) s lent (accepted (stateAfter s xs) (eventsAfter s xs) lent) n e h,
+      ap (λ (x : Reading). outcome (x .answer) (x .receiver) lent) q ∙ is-refused (blockTests s xs places) s lent (read lent) n e h,
       rw (← e, ne-eqb n 0 h) refl,
     )
 
     -- with the block read
-    pub read-in : {o : Outcome Receiver (List ℕ)} {told : List ℕ} → Readable places → o ≡ accepted (stateAfter s xs) (eventsAfter s xs) lent
-        → told ≡ sets ix 0 (indices (indexedAfter s xs)) → (o ≡ blockIn s xs places lent) × (told ≡ indicesIn s xs places ix)
+    pub read-in : {o : Outcome Receiver EventLists} {told : List ℕ} → Readable places → o ≡ read lent → told ≡ sets ix 0 (indices (indexedAfter s xs))
+        → (o ≡ blockIn s xs places lent) × (told ≡ indicesIn s xs places ix)
     read-in k e t =
         let z = tests-0 (inRange s) xs (placesFor (length xs)) places k in
-        (e ∙ sym (not-refused (blockTests s xs places) s lent (accepted (stateAfter s xs) (eventsAfter s xs) lent) z), rw z t)
+        (e ∙ sym (not-refused (blockTests s xs places) s lent (read lent) z), rw z t)
 
   -- ---- a block with indices
 
-  module _ (lent ix : List ℕ) where
-    abbrev places : ℕ
-    places = min (length lent) (length ix)
+  -- the same with an index beside each event
+  abbrev pub indexed : EventLists × List ℕ → Outcome Receiver (EventLists × List ℕ)
+  indexed = acceptedIn (bothIn twoLists oneList) (stateAfter s xs) (indexedAfter s xs)
 
-    abbrev given : Outcome Receiver (List ℕ × List ℕ)
-    given = acceptedIn (bothIn oneList oneList) (stateAfter s xs) (indexedAfter s xs) (lent, ix)
+  -- the events of the indexed ones, and their count
+  pub told-values : values (indexedAfter s xs) ≡ measuredAfter s xs
+  told-values = indexed-values afterSample measuredAt 0 s xs
+
+  pub told-count : length (indexedAfter s xs) ≡ length (measuredAfter s xs)
+  told-count = sym (length-map (indexedAfter s xs) (λ (p : (ℕ × ℤ) × ℕ). p .0)) ∙ ap length told-values
+
+  module _ (lent : EventLists) (ix : List ℕ) where
+    abbrev places : ℕ
+    places = shortest (lent, ix)
 
     -- no test holds
     module _ (k : Readable places) where
-      pub indexed-0 : indexedOf s xs (lent, ix) ≡ given
-      unfolding indexedOf
-      indexed-0 = not-refused (blockTests s xs places) s (lent, ix) given (tests-0 (inRange s) xs (placesFor (length xs)) places k)
-
       -- the block read, with its indices
-      with-indices : (r : Reading) (events told : List ℕ)
-          → outcome (r .answer) (r .receiver) events ≡ accepted (stateAfter s xs) (eventsAfter s xs) lent
-          → told ≡ sets ix 0 (indices (indexedAfter s xs)) → outcome (r .answer) (r .receiver) (events, told) ≡ given
-      with-indices r events told e t i =
-          record { number = e i .number; count = (ap (λ (o : Outcome Receiver (List ℕ)). o .count) e ∙ count) i; state = e i .state; lent = (stored i, noted i) }
+      with-indices : (r : Reading) (left : EventLists) (told : List ℕ) → outcome (r .answer) (r .receiver) left ≡ read lent
+          → told ≡ sets ix 0 (indices (indexedAfter s xs)) → outcome (r .answer) (r .receiver) (left, told) ≡ indexed (lent, ix)
+      with-indices r left told e t i =
+          record {
+            number = e i .number;
+            count = (ap (λ (o : Outcome Receiver EventLists). o .count) e ∙ sym told-count) i;
+            state = e i .state;
+            lent = (stored i, noted i);
+          }
         where
-          all : List (ℕ × ℕ)
-          all = indexedAfter s xs
+          stored : left ≡ twoLists .filled (values (indexedAfter s xs)) lent
+          stored =
+              ap (λ (o : Outcome Receiver EventLists). o .lent) e
+              ∙ ap (λ (l : List (ℕ × ℤ)). twoLists .filled l lent) (sym told-values)
 
-          told-values : eventsAfter s xs ≡ values all
-          told-values = sym (indexed-values afterSample eventsAt 0 s xs)
-
-          count : length (eventsAfter s xs) ≡ length all
-          count = ap length told-values ∙ length-map all (λ (p : ℕ × ℕ). p .0)
-
-          stored : events ≡ over (values all) lent
-          stored = ap (λ (o : Outcome Receiver (List ℕ)). o .lent) e ∙ ap (λ (l : List ℕ). over l lent) told-values
-
-          noted : told ≡ over (indices all) ix
+          noted : told ≡ over (indices (indexedAfter s xs)) ix
           noted =
               t
-              ∙ sets-front (indices all) ix
-              (omega (arith, length-map all (λ (p : ℕ × ℕ). p .1), count, events-few s xs (k .ranged), k .room))
+              ∙ sets-front (indices (indexedAfter s xs)) ix
+              (omega (arith, length-map (indexedAfter s xs) (λ (p : (ℕ × ℤ) × ℕ). p .1), told-count, measured-few s xs (k .ranged), k .room))
 
     -- what the code gives is the call with indices
-    pub indexed-in : (r : Reading) (events told : List ℕ) → outcome (r .answer) (r .receiver) events ≡ blockIn s xs places lent
-        → told ≡ indicesIn s xs places ix → outcome (r .answer) (r .receiver) (events, told) ≡ indexedOf s xs (lent, ix)
+    pub indexed-in : (r : Reading) (left : EventLists) (told : List ℕ) → outcome (r .answer) (r .receiver) left ≡ blockIn s xs places lent
+        → told ≡ indicesIn s xs places ix → outcome (r .answer) (r .receiver) (left, told) ≡ indexedOf s xs (lent, ix)
     unfolding indexedOf
-    indexed-in r events told e t = go (firstOf (blockTests s xs places)) (block-known places) e t
+    indexed-in r left told e t = go (firstOf (blockTests s xs places)) (block-known places) e t
       where
         go : (n : ℕ) → (n ≡ 0 → Readable places)
-            → outcome (r .answer) (r .receiver) events ≡ cond (eqb n 0) (accepted (stateAfter s xs) (eventsAfter s xs) lent) (refused n s lent)
+            → outcome (r .answer) (r .receiver) left ≡ cond (eqb n 0) (read lent) (refused n s lent)
             → told ≡ cond (eqb n 0) (sets ix 0 (indices (indexedAfter s xs))) ix
-            → outcome (r .answer) (r .receiver) (events, told) ≡ cond (eqb n 0) given (refused n s (lent, ix))
-        go zero k e t = with-indices (k refl) r events told e t
+            → outcome (r .answer) (r .receiver) (left, told) ≡ cond (eqb n 0) (indexed (lent, ix)) (refused n s (lent, ix))
+        go zero k e t = with-indices (k refl) r left told e t
         go (suc n) k e t =
-            let e′ : outcome (r .answer) (r .receiver) events ≡ refused (suc n) s lent = rw (eqb·suc-zero n) at e in
+            let e′ : outcome (r .answer) (r .receiver) left ≡ refused (suc n) s lent = rw (eqb·suc-zero n) at e in
             let t′ : told ≡ ix = rw (eqb·suc-zero n) at t in
             rw (eqb·suc-zero n) (λ i. record { number = e′ i .number; count = e′ i .count; state = e′ i .state; lent = (e′ i .lent, t′ i) })

@@ -1,6 +1,7 @@
 -- Laws of the energies: by lists of weights, and as natural numbers. From the laws of sums and of waves.
 -- Assumes nothing.
 use mathlib.Core.Path.{_≡_, sym, ap, ap₂, _∙_}
+use mathlib.Core.Bool.{true}
 use mathlib.Core.List.{List}
 use Prim.Native.Nat.{ℕ, _+_, _*_, _<_}
 use native.Mathlib.Nat.{zero-add, add-comm}
@@ -8,6 +9,7 @@ use native.Mathlib.Omega.{arith}
 use lib.IntN.{ℤ, pos, _+ℤ_, _*ℤ_}
 use lib.ListN.{getD, drop, length-drop}
 use lib.Seq.{length-take-le}
+use lib.Signed.{leZ}
 use Rattle.integers.specs.Sums.{dot, sumTo}
 use Rattle.integers.proofs.Size.{square}
 use Rattle.integers.proofs.Sums.{sumTo-same, sumTo-dot, products, bounded-take, bounded-drop}
@@ -17,6 +19,7 @@ use Rattle.sine.proofs.Wave.{length-wave, wave-at}
 use Rattle.sine.proofs.Parts.{length-weights, weights-bound, weights-parts}
 use Rattle.tones.specs.declared.Tones.{Tones}
 use Rattle.weighing.specs.Weighing.{decided}
+use Rattle.weighing.proofs.Laws.{apart-least}
 use Rattle.receiver.specs.Energy.{inPhase, quadrature, energy, energyℕ, decisionOf}
 use Rattle.receiver.specs.AsCoded.{AreWeights, energyBy, IsBank, kind, decisionBy}
 
@@ -71,3 +74,8 @@ pub decision-ℕ : (t : Tones) (window : List ℤ)
     → decisionOf t window ≡ decided (pos (energyℕ window (t .space))) (pos (energyℕ window (t .mark)))
 unfolding decisionOf
 decision-ℕ t window = ap₂ (λ (a b : ℤ). decided a b) (energy-ℕ window (t .space)) (energy-ℕ window (t .mark))
+
+-- the difference of its energies is never negative
+pub difference-natural : (t : Tones) (window : List ℤ) → leZ (pos 0) (decisionOf t window .difference) ≡ true
+unfolding decisionOf
+difference-natural t window = apart-least (energy window (t .space)) (energy window (t .mark))

@@ -11,13 +11,14 @@ use Rattle.control.specs.Ranges.{isControl}
 use Rattle.control.specs.Rules.{isEvent}
 use Rattle.control.proofs.Ranges.{control-kept}
 use Rattle.control.proofs.Events.{Known, reported-known}
+use Rattle.quality.specs.Quality.{trackedAfter}
 use Rattle.receiver.specs.declared.Receiver.{Receiver}
 use Rattle.receiver.specs.Step.{controlOf, decisionAt, afterSample, eventsAt, eventsAfter}
 use Rattle.receiver.specs.Calls.{inRange}
 use Rattle.receiver.proofs.Ranges.{in-range}
 
 from-control : (s : Receiver) (xs : List ℤ) → isControl (controlOf s) ≡ true → Known (eventsAfter s xs)
-unfolding gives afterSample eventsAt
+unfolding gives afterSample trackedAfter eventsAt
 from-control s [] h = none
 from-control s (x ∷ xs) h =
     all-append (reported-known (controlOf s) (decisionAt s x) h) (from-control (afterSample s x) xs (control-kept (controlOf s) (decisionAt s x) h))

@@ -3,7 +3,7 @@
 -- Assumes nothing.
 use mathlib.Core.Path.{_≡_, sym, ap, _∙_}
 use mathlib.Core.Bool.{true}
-use mathlib.Core.List.{List, [], _++_, map, map-append}
+use mathlib.Core.List.{List, [], _++_, map, map-id, map-map, map-append}
 use Prim.Native.Nat.{ℕ, _+_, _-_, _<_, _≤_, zero-le}
 use native.Mathlib.Omega.{arith}
 use lib.IntN.{ℤ}
@@ -12,19 +12,23 @@ use lib.Seq.{sets, length-take-le, drop-append-add, slice, length-slice}
 use Rattle.integers.proofs.Lists.{slice-rest}
 use Rattle.calls.specs.Runs.{after, indexed, withIndex}
 use Rattle.calls.proofs.Runs.{run-laws}
-use Rattle.calls.proofs.Indexed.{values, indices, values-with, indices-with, indexed-values, indexed-append}
+use Rattle.calls.proofs.Indexed.{indexed-values, indexed-append}
 use Rattle.calls.proofs.Filling.{Filling, filling-start, filling-more, filling-end}
 use Rattle.tones.proofs.Samples.{samples-take, samples-drop}
 use Rattle.control.specs.declared.Decision.{Decision}
 use Rattle.control.specs.declared.Stage.{Stage}
-use Rattle.control.specs.declared.Control.{Control}
 use Rattle.control.specs.Ranges.{isControl}
-use Rattle.control.specs.Rules.{numbers, controlAfter, reported, follow, reports, reportsFrom}
+use Rattle.control.specs.Rules.{numbers}
 use Rattle.control.proofs.Ranges.{control-run, follow-kept}
+use Rattle.quality.specs.declared.Difference.{Difference}
+use Rattle.quality.specs.declared.Tracked.{Tracked}
+use Rattle.quality.specs.Quality.{trackedAfter, measured, track, measures, measuresFrom}
+use Rattle.quality.proofs.Laws.{control-part}
+use Rattle.quality.proofs.Stretches.{tracked}
 use Rattle.receiver.specs.declared.moves.Place.{Place}
 use Rattle.receiver.specs.declared.scan.Reached.{Reached}
 use Rattle.receiver.specs.declared.scan.Turn.{Turn}
-use Rattle.receiver.specs.AsCoded.{IsWindow, decisionBy, reachedBy, recorded, IsSource, decisionsBy, unjudged, judged, IsPlace, runAt, controlAt, exactly, Onward}
+use Rattle.receiver.specs.AsCoded.{IsWindow, decisionBy, reachedBy, recorded, IsSource, decisionsBy, unjudged, judged, IsPlace, runAt, controlAt, stateAt, exactly, toldBy, Onward, numbersOf, differencesOf, indicesBy}
 use Rattle.receiver.proofs.Windows.{length-decisions, decisions-at}
 use Rattle.receiver.proofs.Places.{place-exact, run-exact}
 
@@ -68,47 +72,67 @@ module _ {weights head xs : List ℤ} (s : IsSource weights head xs) where
 
 -- ---- from place to place
 
-module _ (ds : List Decision) (lent indexed-lent : List ℕ) (c : Control) where
-  -- all that is reported, and what is still to be, from a place on
-  abbrev all : List (ℕ × ℕ)
-  all = reportsFrom 0 c ds
+-- the three sides of what is told
+abbrev numberIn : (ℕ × ℤ) × ℕ → ℕ
+numberIn e = e .0 .0
 
-  abbrev rest : Place → Stage → List (ℕ × ℕ)
-  rest at stage = reportsFrom (at .next) (controlAt ds at stage) (drop (at .next) ds)
+abbrev differenceIn : (ℕ × ℤ) × ℕ → ℤ
+differenceIn e = e .0 .1
 
-  -- the reading has come to this place and this stage, and the events so far stand in `events`, with their indices in `told`
-  pub record Scanning (events told : List ℕ) (at : Place) (stage : Stage) (count : ℕ) : Type 0 where
+abbrev indexIn : (ℕ × ℤ) × ℕ → ℕ
+indexIn e = e .1
+
+module _ (ds : List Decision) (lent : List ℕ) (lent-differences : List ℤ) (lent-indices : List ℕ) (c : Tracked) where
+  -- all that is told, and what is still to be, from a place on
+  abbrev all : List ((ℕ × ℤ) × ℕ)
+  all = measuresFrom 0 c ds
+
+  abbrev rest : Place → Stage → Difference → List ((ℕ × ℤ) × ℕ)
+  rest at stage q = measuresFrom (at .next) (stateAt ds at stage q) (drop (at .next) ds)
+
+  -- the reading has come to this place, stage and difference, and the events so far stand in `events`, with their differences in `noted` and
+  -- their indices in `told`
+  pub record Scanning (events : List ℕ) (noted : List ℤ) (told : List ℕ) (at : Place) (stage : Stage) (q : Difference) (count : ℕ) : Type 0 where
     pub place : IsPlace ds at
     pub control : isControl (controlAt ds at stage) ≡ true
-    pub reached : follow (controlAt ds at stage) (drop (at .next) ds) ≡ follow c ds
-    pub filled : Filling lent 0 (values all) events count (values (rest at stage))
-    pub indexed : Filling indexed-lent 0 (indices all) told count (indices (rest at stage))
-    pub counted : count + length (rest at stage) ≡ length all
+    pub reached : track (stateAt ds at stage q) (drop (at .next) ds) ≡ track c ds
+    pub filled : Filling lent 0 (map numberIn all) events count (map numberIn (rest at stage q))
+    pub measured : Filling lent-differences 0 (map differenceIn all) noted count (map differenceIn (rest at stage q))
+    pub indexed : Filling lent-indices 0 (map indexIn all) told count (map indexIn (rest at stage q))
+    pub counted : count + length (rest at stage q) ≡ length all
 
-  pub scanning-start : isControl c ≡ true → (at : Place) → at ≡ exactly 0 (c .run) → Scanning lent indexed-lent at (c .stage) 0
-  scanning-start h at q =
-      let e : controlAt ds (exactly 0 (c .run)) (c .stage) ≡ c = (λ i. record { run = run-exact ds 0 (c .run) i; stage = c .stage }) in
-      rw q
+  pub scanning-start : isControl (c .control) ≡ true → (at : Place) → at ≡ exactly 0 (c .control .run)
+      → Scanning lent lent-differences lent-indices at (c .control .stage) (c .smallest) 0
+  scanning-start h at e =
+      let run : ℕ = c .control .run in
+      let here : stateAt ds (exactly 0 run) (c .control .stage) (c .smallest) ≡ c =
+      (λ i. record { control = record { run = run-exact ds 0 run i; stage = c .control .stage }; smallest = c .smallest }) in
+      rw e
       (record {
-        place = place-exact ds 0 (c .run) zero-le (control-run c h);
-        control = ap isControl e ∙ h;
-        reached = ap (λ (u : Control). follow u ds) e;
-        filled = rw e (filling-start lent 0 (values all));
-        indexed = rw e (filling-start indexed-lent 0 (indices all));
-        counted = omega (arith, ap (λ (u : Control). length (reportsFrom 0 u ds)) e);
+        place = place-exact ds 0 run zero-le (control-run (c .control) h);
+        control = ap (λ (u : Tracked). isControl (u .control)) here ∙ h;
+        reached = ap (λ (u : Tracked). track u ds) here;
+        filled = rw here (filling-start lent 0 (map numberIn all));
+        measured = rw here (filling-start lent-differences 0 (map differenceIn all));
+        indexed = rw here (filling-start lent-indices 0 (map indexIn all));
+        counted = omega (arith, ap (λ (u : Tracked). length (measuresFrom 0 u ds)) here);
       })
 
-  module _ {events told : List ℕ} {at : Place} {stage : Stage} {count : ℕ} (s : Scanning events told at stage count) where
+  module _ {events : List ℕ} {noted : List ℤ} {told : List ℕ} {at : Place} {stage : Stage} {q : Difference} {count : ℕ}
+      (s : Scanning events noted told at stage q count) where
     -- read on
-    module _ (t : Turn) (o : Onward ds at stage t) where
-      abbrev here : Control
-      here = controlAt ds at stage
+    module _ (t : Turn) (o : Onward ds at stage q t) where
+      abbrev here : Tracked
+      here = stateAt ds at stage q
 
       abbrev gone : List Decision
       gone = slice (at .next) (t .place .next) ds
 
       abbrev left : List Decision
       left = drop (t .place .next) ds
+
+      abbrev after-turn : List ((ℕ × ℤ) × ℕ)
+      after-turn = rest (t .place) (t .stage) (t .smallest)
 
       -- the events of the turn, and the index that each of them has
       abbrev new : List ℕ
@@ -120,62 +144,68 @@ module _ (ds : List Decision) (lent indexed-lent : List ℕ) (c : Control) where
       parts : drop (at .next) ds ≡ gone ++ left
       parts = slice-rest ds (at .next) (t .place .next) (omega (arith, o .later)) (s .place .inside)
 
-      reached-next : follow (controlAt ds (t .place) (t .stage)) left ≡ follow here (drop (at .next) ds)
+      reached-next : track (stateAt ds (t .place) (t .stage) (t .smallest)) left ≡ track here (drop (at .next) ds)
       reached-next =
           sym
-          (ap (follow here) parts
-          ∙ run-laws controlAfter reported .after-append here gone left
-          ∙ ap (λ (u : Control). follow u left) (o .control))
+          (ap (track here) parts
+          ∙ run-laws trackedAfter measured .after-append here gone left
+          ∙ ap (λ (u : Tracked). track u left) (o .state))
 
-      rest-next : rest at stage ≡ withIndex index new ++ rest (t .place) (t .stage)
+      rest-next : rest at stage q ≡ withIndex index (toldBy t) ++ after-turn
       rest-next =
           let e : at .next + length gone ≡ t .place .next =
           omega (arith, length-slice (at .next) (t .place .next) ds (o .place .inside), o .later) in
-          ap (reportsFrom (at .next) here) parts
-          ∙ indexed-append controlAfter reported (at .next) here gone left
-          ∙ (λ i. o .events i ++ reportsFrom (e i) (o .control i) left)
+          ap (measuresFrom (at .next) here) parts
+          ∙ indexed-append trackedAfter measured (at .next) here gone left
+          ∙ (λ i. o .events i ++ measuresFrom (e i) (o .state i) left)
 
-      values-next : values (rest at stage) ≡ new ++ values (rest (t .place) (t .stage))
-      values-next =
-          ap values rest-next
-          ∙ map-append (λ (p : ℕ × ℕ). p .0) (withIndex index new) (rest (t .place) (t .stage))
-          ∙ ap (λ (l : List ℕ). l ++ values (rest (t .place) (t .stage))) (values-with index new)
+      -- what the turn adds to one of the lists
+      module _ {A : Type 0} (f : (ℕ × ℤ) × ℕ → A) where
+        abbrev added : List A
+        added = map (λ (n : ℕ). f ((n, t .difference), index)) new
 
-      indices-next : indices (rest at stage) ≡ map (λ n. index) new ++ indices (rest (t .place) (t .stage))
-      indices-next =
-          ap indices rest-next
-          ∙ map-append (λ (p : ℕ × ℕ). p .1) (withIndex index new) (rest (t .place) (t .stage))
-          ∙ ap (λ (l : List ℕ). l ++ indices (rest (t .place) (t .stage))) (indices-with index new)
+        side-next : map f (rest at stage q) ≡ added ++ map f after-turn
+        side-next =
+            ap (map f) rest-next
+            ∙ map-append f (withIndex index (toldBy t)) after-turn
+            ∙ ap (λ (l : List A). l ++ map f after-turn)
+            (map-map f (λ (e : ℕ × ℤ). (e, index)) (toldBy t) ∙ map-map (λ (e : ℕ × ℤ). f (e, index)) (λ (n : ℕ). (n, t .difference)) new)
 
-      count-next : length (rest at stage) ≡ length new + length (rest (t .place) (t .stage))
+        side-more : {given now : List A} → Filling given 0 (map f all) now count (map f (rest at stage q))
+            → Filling given 0 (map f all) (sets now count added) (count + length new) (map f after-turn)
+        side-more h =
+            rw (length-map new (λ (n : ℕ). f ((n, t .difference), index))) at (filling-more added (map f after-turn) (rw side-next at h))
+
+      count-next : length (rest at stage q) ≡ length new + length after-turn
       count-next =
           ap length rest-next
-          ∙ length-append (withIndex index new) (rest (t .place) (t .stage))
-          ∙ ap (λ (n : ℕ). n + length (rest (t .place) (t .stage))) (length-map new (λ n. (n, index)))
+          ∙ length-append (withIndex index (toldBy t)) after-turn
+          ∙ ap (λ (n : ℕ). n + length after-turn) (length-map (toldBy t) (λ e. (e, index)) ∙ length-map new (λ n. (n, t .difference)))
 
-      pub scanning-room : length (reports c ds) ≤ length lent → count + length new ≤ length events
-      scanning-room room =
-          omega (
-            arith,
-            count-next,
-            s .counted,
-            s .filled .long,
-            ap length (indexed-values controlAfter reported 0 c ds),
-            length-map all (λ (p : ℕ × ℕ). p .0),
-          )
+      -- a list with places for all that is told has those of the turn
+      room : (given now : ℕ) → now ≡ given → length (measures c ds) ≤ given → count + length new ≤ now
+      room given now e h =
+          omega (arith, count-next, s .counted, ap length (indexed-values trackedAfter measured 0 c ds), length-map all (λ (p : (ℕ × ℤ) × ℕ). p .0))
 
-      pub scanning-more : (events′ told′ : List ℕ) (count′ : ℕ) → count′ ≡ count + length new → events′ ≡ sets events count new
-          → told′ ≡ sets told count (map (λ n. index) new) → Scanning events′ told′ (t .place) (t .stage) count′
-      scanning-more events′ told′ count′ en ee ei =
-          rw (en, ee, ei)
+      pub scanning-room : (length (measures c ds) ≤ length lent) × (length (measures c ds) ≤ length lent-differences)
+          → (count + length new ≤ length events) × (count + length new ≤ length noted)
+      scanning-room h =
+          (room (length lent) (length events) (s .filled .long) (h .0), room (length lent-differences) (length noted) (s .measured .long) (h .1))
+
+      pub scanning-more : (events′ : List ℕ) (noted′ : List ℤ) (told′ : List ℕ) (count′ : ℕ) → count′ ≡ count + length new
+          → events′ ≡ sets events count new → noted′ ≡ sets noted count (map (λ n. t .difference) new) → told′ ≡ sets told count (map (λ n. index) new)
+          → Scanning events′ noted′ told′ (t .place) (t .stage) (t .smallest) count′
+      scanning-more events′ noted′ told′ count′ en ee ed ei =
+          rw (en, ee, ed, ei)
           (record {
             place = o .place;
-            control = sym (ap isControl (o .control)) ∙ follow-kept here gone (s .control);
+            control =
+                sym (ap (λ (u : Tracked). isControl (u .control)) (o .state)) ∙ ap isControl (control-part here gone)
+                ∙ follow-kept (controlAt ds at stage) gone (s .control);
             reached = reached-next ∙ s .reached;
-            filled = filling-more new (values (rest (t .place) (t .stage))) (rw values-next at (s .filled));
-            indexed =
-                rw (length-map new (λ n. index)) at
-                (filling-more (map (λ n. index) new) (indices (rest (t .place) (t .stage))) (rw indices-next at (s .indexed)));
+            filled = rw (map-id new) at (side-more numberIn (s .filled));
+            measured = side-more differenceIn (s .measured);
+            indexed = side-more indexIn (s .indexed);
             counted = omega (arith, count-next, s .counted);
           })
 
@@ -184,31 +214,42 @@ module _ (ds : List Decision) (lent indexed-lent : List ℕ) (c : Control) where
       last : drop (at .next) ds ≡ []
       last = drop-of-length-le ds {i = at .next} h
 
-      nothing : rest at stage ≡ []
+      nothing : rest at stage q ≡ []
       unfolding indexed
-      nothing = ap (reportsFrom (at .next) (controlAt ds at stage)) last
+      nothing = ap (measuresFrom (at .next) (stateAt ds at stage q)) last
 
-      at-end : controlAt ds at stage ≡ follow c ds
+      at-end : stateAt ds at stage q ≡ track c ds
       unfolding after
-      at-end = sym (ap (follow (controlAt ds at stage)) last) ∙ s .reached
+      at-end = sym (ap (track (stateAt ds at stage q)) last) ∙ s .reached
 
-      counted-end : count ≡ length (reports c ds)
+      counted-end : count ≡ length (measures c ds)
       counted-end =
           omega (
             arith,
             ap length nothing,
             s .counted,
-            ap length (indexed-values controlAfter reported 0 c ds),
-            length-map all (λ (p : ℕ × ℕ). p .0),
+            ap length (indexed-values trackedAfter measured 0 c ds),
+            length-map all (λ (p : (ℕ × ℤ) × ℕ). p .0),
           )
 
       pub scanning-reached : (run : ℕ) → run ≡ runAt ds at
-          → _≡_ {A = Reached} (record { control = record { run = run; stage = stage }; count = count }) (reachedBy c ds)
+          → _≡_ {A = Reached} (record { state = tracked run stage q; count = count }) (reachedBy c ds)
       scanning-reached run e i =
-          record { control = record { run = (e ∙ ap (λ (u : Control). u .run) at-end) i; stage = at-end i .stage }; count = counted-end i }
+          record { state = ((λ j. tracked (e j) stage q) ∙ at-end) i; count = counted-end i }
 
-      pub scanning-events : events ≡ sets lent 0 (reports c ds)
-      scanning-events = filling-end (rw nothing at (s .filled)) ∙ ap (sets lent 0) (indexed-values controlAfter reported 0 c ds)
+      -- one of the lists, by the events with their differences
+      side-end : {A : Type 0} (f : ℕ × ℤ → A) {given now : List A}
+          → Filling given 0 (map (λ (p : (ℕ × ℤ) × ℕ). f (p .0)) all) now count (map (λ (p : (ℕ × ℤ) × ℕ). f (p .0)) (rest at stage q))
+          → now ≡ sets given 0 (map f (measures c ds))
+      side-end f {given} h =
+          filling-end (rw nothing at h)
+          ∙ ap (sets given 0) (sym (map-map f (λ (p : (ℕ × ℤ) × ℕ). p .0) all) ∙ ap (map f) (indexed-values trackedAfter measured 0 c ds))
 
-      pub scanning-indices : told ≡ sets indexed-lent 0 (indices all)
+      pub scanning-events : events ≡ sets lent 0 (numbersOf (measures c ds))
+      scanning-events = side-end (λ (e : ℕ × ℤ). e .0) (s .filled)
+
+      pub scanning-differences : noted ≡ sets lent-differences 0 (differencesOf (measures c ds))
+      scanning-differences = side-end (λ (e : ℕ × ℤ). e .1) (s .measured)
+
+      pub scanning-indices : told ≡ sets lent-indices 0 (indicesBy c ds)
       scanning-indices = filling-end (rw nothing at (s .indexed))

@@ -11,12 +11,16 @@ use lib.ListN.{length, getD, take, drop, length-append, length-drop}
 use lib.Seq.{take-at, append-snoc, drop-append-le, drop-drop}
 use Rattle.integers.proofs.Tests.{lt-or-le}
 use Rattle.calls.specs.Runs.{after, gives, indexed, withIndex}
+use Rattle.calls.proofs.Indexed.{values, indexed-values}
 use Rattle.tones.specs.Bands.{tonesOf}
 use Rattle.control.specs.declared.Decision.{Decision}
-use Rattle.control.specs.Rules.{reported, follow, reports, reportsFrom}
+use Rattle.control.specs.Rules.{controlAfter, reported, follow, reports}
+use Rattle.quality.specs.declared.Tracked.{Tracked}
+use Rattle.quality.specs.Quality.{trackedAfter, measured, track, measures, measuresFrom}
+use Rattle.quality.proofs.Laws.{control-part}
 use Rattle.receiver.specs.declared.Receiver.{Receiver}
 use Rattle.receiver.specs.Energy.{decisionOf}
-use Rattle.receiver.specs.Step.{controlOf, entered, decisionAt, afterSample, eventsAt, stateAfter, eventsAfter}
+use Rattle.receiver.specs.Step.{controlOf, trackedOf, entered, decisionAt, afterSample, eventsAt, measuredAt, stateAfter, eventsAfter, measuredAfter}
 use Rattle.receiver.specs.Windows.{decisions, decisionsOf}
 
 length-entered : (window : List ℤ) (x : ℤ) → length window ≡ 32 → length (entered window x) ≡ 32
@@ -61,6 +65,11 @@ module _ (decide : List ℤ → Decision) where
 
 -- ---- the step rule
 
+-- run and stage move as they do without the differences
+pub control-sample : (s : Receiver) (x : ℤ) → controlOf (afterSample s x) ≡ controlAfter (controlOf s) (decisionAt s x)
+unfolding afterSample trackedAfter
+control-sample s x = refl
+
 -- the decisions at the windows that the samples xs complete
 abbrev pub decisionsOver : Receiver → List ℤ → List Decision
 decisionsOver s xs = decisionsOf (s .band) (drop 1 (s .window) ++ xs)
@@ -68,31 +77,47 @@ decisionsOver s xs = decisionsOf (s .band) (drop 1 (s .window) ++ xs)
 pub record ByWindows (s : Receiver) (xs : List ℤ) : Type 0 where
   pub control : controlOf (stateAfter s xs) ≡ follow (controlOf s) (decisionsOver s xs)
   pub events : eventsAfter s xs ≡ reports (controlOf s) (decisionsOver s xs)
-  pub indexed : (k : ℕ) → indexed afterSample eventsAt k s xs ≡ reportsFrom k (controlOf s) (decisionsOver s xs)
+  pub tracked : trackedOf (stateAfter s xs) ≡ track (trackedOf s) (decisionsOver s xs)
+  pub indexed : (k : ℕ) → indexed afterSample measuredAt k s xs ≡ measuresFrom k (trackedOf s) (decisionsOver s xs)
 
-pub by-windows : (s : Receiver) (xs : List ℤ) → length (s .window) ≡ 32 → ByWindows s xs
-unfolding afterSample eventsAt after gives indexed
-by-windows s [] e =
+by-tracked : (s : Receiver) (xs : List ℤ) → length (s .window) ≡ 32
+    → (eventsAfter s xs ≡ reports (controlOf s) (decisionsOver s xs))
+    × ((trackedOf (stateAfter s xs) ≡ track (trackedOf s) (decisionsOver s xs))
+    × ((k : ℕ) → indexed afterSample measuredAt k s xs ≡ measuresFrom k (trackedOf s) (decisionsOver s xs)))
+unfolding afterSample eventsAt measuredAt trackedAfter after gives indexed
+by-tracked s [] e =
     let none : decisionsOver s [] ≡ [] =
     ap (decisionsOf (s .band)) (append-nil (drop 1 (s .window)))
     ∙ decisions-none (decisionOf (tonesOf (s .band))) (drop 1 (s .window)) (omega (arith, length-drop 1 (s .window))) in
-    record {
-      control = ap (follow (controlOf s)) (sym none);
-      events = ap (reports (controlOf s)) (sym none);
-      indexed = λ k. ap (reportsFrom k (controlOf s)) (sym none);
-    }
-by-windows s (x ∷ xs) e =
+    (ap (reports (controlOf s)) (sym none), (ap (track (trackedOf s)) (sym none), λ k. ap (measuresFrom k (trackedOf s)) (sym none)))
+by-tracked s (x ∷ xs) e =
     let more = decisions-entered (decisionOf (tonesOf (s .band))) (s .window) x xs e in
-    let rest = by-windows (afterSample s x) xs (length-entered (s .window) x e) in
+    let rest = by-tracked (afterSample s x) xs (length-entered (s .window) x e) in (
+      ap (λ (l : List ℕ). reported (controlOf s) (decisionAt s x) ++ l) (rest .0) ∙ ap (reports (controlOf s)) (sym more),
+      (
+        rest .1 .0 ∙ ap (track (trackedOf s)) (sym more),
+        λ k.
+            ap (λ (l : List ((ℕ × ℤ) × ℕ)). withIndex k (measured (trackedOf s) (decisionAt s x)) ++ l) (rest .1 .1 (k + 1))
+            ∙ ap (measuresFrom k (trackedOf s)) (sym more),
+      ),
+    )
+
+pub by-windows : (s : Receiver) (xs : List ℤ) → length (s .window) ≡ 32 → ByWindows s xs
+by-windows s xs e =
+    let t = by-tracked s xs e in
     record {
-      control = rest .control ∙ ap (follow (controlOf s)) (sym more);
-      events =
-          ap (λ (l : List ℕ). reported (controlOf s) (decisionAt s x) ++ l) (rest .events)
-          ∙ ap (reports (controlOf s)) (sym more);
-      indexed = λ k.
-          ap (λ (l : List (ℕ × ℕ)). withIndex k (reported (controlOf s) (decisionAt s x)) ++ l) (rest .indexed (k + 1))
-          ∙ ap (reportsFrom k (controlOf s)) (sym more);
+      control = ap (λ (u : Tracked). u .control) (t .1 .0) ∙ control-part (trackedOf s) (decisionsOver s xs);
+      events = t .0;
+      tracked = t .1 .0;
+      indexed = t .1 .1;
     }
+
+-- the events with their differences
+pub measured-windows : (s : Receiver) (xs : List ℤ) → length (s .window) ≡ 32 → measuredAfter s xs ≡ measures (trackedOf s) (decisionsOver s xs)
+measured-windows s xs e =
+    sym (indexed-values afterSample measuredAt 0 s xs)
+    ∙ ap values (by-windows s xs e .indexed 0)
+    ∙ indexed-values trackedAfter measured 0 (trackedOf s) (decisionsOver s xs)
 
 pub band-after : (s : Receiver) (xs : List ℤ) → stateAfter s xs .band ≡ s .band
 unfolding after afterSample

@@ -7,12 +7,12 @@ use mathlib.Core.Bool.{Bool, false, true, cond}
 use mathlib.Core.List.{List, _++_, map}
 use Prim.Native.Nat.{ℕ, _+_, _-_, _*_, _<_, _≤_}
 use lib.Dec.{ltb, leb, eqb}
-use lib.IntN.{ℤ, _+ℤ_, _*ℤ_}
+use lib.IntN.{ℤ, pos, _+ℤ_, _*ℤ_}
 use lib.ListN.{length, getD, take, drop}
 use lib.Seq.{sets, slice}
 use Rattle.integers.specs.Sums.{dot, Bounded}
 use Rattle.calls.specs.Refusals.{firstOf}
-use Rattle.calls.specs.Outcome.{Outcome, unlessRefused, accepted}
+use Rattle.calls.specs.Outcome.{Outcome, unlessRefused, acceptedIn}
 use Rattle.calls.specs.Runs.{withIndex}
 use Rattle.tones.specs.Samples.{areSamples}
 use Rattle.control.specs.declared.Bit.the-variants.{Doubtful}
@@ -20,16 +20,19 @@ use Rattle.control.specs.declared.Decision.{Decision}
 use Rattle.control.specs.declared.Stage.{Stage}
 use Rattle.control.specs.declared.Event.the-variants.{Nothing}
 use Rattle.control.specs.declared.Control.{Control}
-use Rattle.control.specs.Rules.{numbers, follow, reports, reportsFrom}
+use Rattle.control.specs.Rules.{numbers}
 use Rattle.control.specs.AsCoded.{isFound, runOver, NoneFound}
+use Rattle.quality.specs.declared.Difference.{Difference}
+use Rattle.quality.specs.declared.Tracked.{Tracked}
+use Rattle.quality.specs.Quality.{track, measures, measuresFrom}
 use Rattle.weighing.specs.Weighing.{decided}
 use Rattle.receiver.specs.declared.moves.Place.{Place}
 use Rattle.receiver.specs.declared.seek.Sought.{Sought}
 use Rattle.receiver.specs.declared.scan.Turn.{Turn}
 use Rattle.receiver.specs.declared.scan.Reached.{Reached}
 use Rattle.receiver.specs.declared.Receiver.{Receiver}
-use Rattle.receiver.specs.Step.{stateAfter, eventsAfter, indexedAfter}
-use Rattle.receiver.specs.Calls.{blockTests}
+use Rattle.receiver.specs.Step.{stateAfter, measuredAfter, indexedAfter}
+use Rattle.receiver.specs.Calls.{EventLists, twoLists, blockTests}
 use Rattle.receiver.specs.Windows.{decisions}
 
 -- ---- energies from lists of weights: cosines or sines of a tone
@@ -79,7 +82,7 @@ decisionsBy weights head samples = decisions (decisionBy weights) (recorded head
 
 -- decision i, where there is one
 abbrev pub unjudged : Decision
-unjudged = record { good = false; space = false; bit = Doubtful }
+unjudged = record { good = false; space = false; bit = Doubtful; difference = pos 0 }
 
 abbrev pub judged : List Decision → ℕ → Decision
 judged ds i = getD ds i unjudged
@@ -103,6 +106,9 @@ runAt ds p = runBefore ds p (p .next)
 
 abbrev pub controlAt : List Decision → Place → Stage → Control
 controlAt ds p stage = record { run = runAt ds p; stage = stage }
+
+abbrev pub stateAt : List Decision → Place → Stage → Difference → Tracked
+stateAt ds p stage q = record { control = controlAt ds p stage; smallest = q }
 
 -- before decision i, where the run is known
 abbrev pub exactly : ℕ → ℕ → Place
@@ -129,27 +135,38 @@ pub record Seeks (ds : List Decision) (p : Place) (space : Bool) (s : Sought) : 
 abbrev pub missedAt : Place → Sought
 missedAt p = record { place = p; found = false }
 
--- what a search in a stage comes to: the stage `next` if it is found, and else it goes on
-abbrev pub soughtTo : Sought → Stage → Stage → Turn
-soughtTo s stage next = record { place = s .place; stage = cond (s .found) next stage; event = Nothing }
+-- what a search in a stage comes to: the stage `next` if it is found, and else it goes on; the difference stays as it is
+abbrev pub soughtTo : Sought → Stage → Stage → Difference → Turn
+soughtTo s stage next q =
+    record { place = s .place; stage = cond (s .found) next stage; smallest = q; event = Nothing; difference = pos 0 }
 
--- Reading on from the place p comes to the place and the stage of t, and brings its event, with the last decision.
-pub record Onward (ds : List Decision) (p : Place) (stage : Stage) (t : Turn) : Type 0 where
+-- the events of a turn, each with its difference
+abbrev pub toldBy : Turn → List (ℕ × ℤ)
+toldBy t = map (λ n. (n, t .difference)) (numbers (t .event))
+
+-- Reading on from the place p comes to the place, the stage and the difference of t, and brings its event, with the last decision.
+pub record Onward (ds : List Decision) (p : Place) (stage : Stage) (q : Difference) (t : Turn) : Type 0 where
   pub later : p .next < t .place .next
   pub place : IsPlace ds (t .place)
-  pub control : follow (controlAt ds p stage) (slice (p .next) (t .place .next) ds) ≡ controlAt ds (t .place) (t .stage)
-  pub events : reportsFrom (p .next) (controlAt ds p stage) (slice (p .next) (t .place .next) ds)
-      ≡ withIndex (t .place .next - 1) (numbers (t .event))
+  pub state : track (stateAt ds p stage q) (slice (p .next) (t .place .next) ds) ≡ stateAt ds (t .place) (t .stage) (t .smallest)
+  pub events : measuresFrom (p .next) (stateAt ds p stage q) (slice (p .next) (t .place .next) ds) ≡ withIndex (t .place .next - 1) (toldBy t)
 
 -- ---- the end of a block
 
--- the indices of the events that its decisions bring
-abbrev pub reportIndices : Control → List Decision → List ℕ
-reportIndices c ds = map (λ (e : ℕ × ℕ). e .1) (reportsFrom 0 c ds)
+-- the numbers of events and their differences
+abbrev pub numbersOf : List (ℕ × ℤ) → List ℕ
+numbersOf = map (λ (e : ℕ × ℤ). e .0)
 
--- run and stage after its decisions, and how many events they bring
-abbrev pub reachedBy : Control → List Decision → Reached
-reachedBy c ds = record { control = follow c ds; count = length (reports c ds) }
+abbrev pub differencesOf : List (ℕ × ℤ) → List ℤ
+differencesOf = map (λ (e : ℕ × ℤ). e .1)
+
+-- the indices of the events that its decisions bring
+abbrev pub indicesBy : Tracked → List Decision → List ℕ
+indicesBy s ds = map (λ (e : (ℕ × ℤ) × ℕ). e .1) (measuresFrom 0 s ds)
+
+-- run, stage and smallest difference after its decisions, and how many events they bring
+abbrev pub reachedBy : Tracked → List Decision → Reached
+reachedBy s ds = record { state = track s ds; count = length (measures s ds) }
 
 -- the last 32 of a window and a block xs, where `head` is the window with at most 31 samples of the block behind it
 abbrev pub lastWindow : List ℤ → List ℤ → List ℤ
@@ -157,11 +174,12 @@ lastWindow head xs = cond (ltb (length xs) 32) (take 32 (drop (length xs) head))
 
 -- ---- a call
 
--- a block call in which so many places of the list count
-abbrev pub blockIn : Receiver → List ℤ → ℕ → List ℕ → Outcome Receiver (List ℕ)
-blockIn s xs places lent = unlessRefused (blockTests s xs places) s lent (accepted (stateAfter s xs) (eventsAfter s xs) lent)
+-- a block call in which so many places of the lists count
+abbrev pub blockIn : Receiver → List ℤ → ℕ → EventLists → Outcome Receiver EventLists
+blockIn s xs places lent =
+    unlessRefused (blockTests s xs places) s lent (acceptedIn twoLists (stateAfter s xs) (measuredAfter s xs) lent)
 
 -- the list of indices that it leaves
 abbrev pub indicesIn : Receiver → List ℤ → ℕ → List ℕ → List ℕ
 indicesIn s xs places ix =
-    cond (eqb (firstOf (blockTests s xs places)) 0) (sets ix 0 (map (λ (e : ℕ × ℕ). e .1) (indexedAfter s xs))) ix
+    cond (eqb (firstOf (blockTests s xs places)) 0) (sets ix 0 (map (λ (e : (ℕ × ℤ) × ℕ). e .1) (indexedAfter s xs))) ix

@@ -1,5 +1,5 @@
--- The receiver's calls: the specification, "Reader, step by step" and "Refused calls". Each has its table of refusals, in the
--- specification's order.
+-- The receiver's calls: the specification, "Reader, step by step", "Refused calls" and "Quality beside each character". Each has its table of
+-- refusals, in the specification's order.
 -- Assumes nothing.
 use mathlib.Core.Bool.{Bool, cond, not, _&&_}
 use mathlib.Core.List.{List, [], _∷_}
@@ -8,20 +8,22 @@ use lib.Dec.{ltb}
 use lib.IntN.{ℤ, pos}
 use lib.ListN.{length, replicate}
 use Rattle.calls.specs.Refusals.{Test, test, firstOf}
-use Rattle.calls.specs.Outcome.{Outcome, unlessRefused, acceptedIn, oneList, bothIn, accepted}
+use Rattle.calls.specs.Outcome.{Outcome, Lending, unlessRefused, acceptedIn, oneList, bothIn}
 use Rattle.tones.specs.Bands.{isBand}
 use Rattle.tones.specs.Samples.{mostSamples, areSamples}
 use Rattle.control.specs.declared.Stage.the-variants.{Searching}
 use Rattle.control.specs.Ranges.{isControl}
+use Rattle.quality.specs.declared.Difference.the-variants.{None}
+use Rattle.quality.specs.Quality.{isKept}
 use Rattle.receiver.specs.declared.Receiver.{Receiver}
 use Rattle.receiver.specs.declared.Opened.{Opened}
-use Rattle.receiver.specs.Step.{controlOf, stateAfter, eventsAfter, indexedAfter}
+use Rattle.receiver.specs.Step.{controlOf, stateAfter, measuredAfter, indexedAfter}
 
 -- ---- opening
 
--- a fresh receiver has a window of zeros and run 0, and searches
+-- a fresh receiver has a window of zeros and run 0, searches, and has no difference
 abbrev pub fresh : ℕ → Receiver
-fresh band = record { band = band; window = replicate 32 (pos 0); run = 0; stage = Searching }
+fresh band = record { band = band; window = replicate 32 (pos 0); run = 0; stage = Searching; smallest = None }
 
 -- the fresh state of the band, or 1 and the fresh state of band 1
 abbrev pub openTests : ℕ → List Test
@@ -32,9 +34,9 @@ openOf band = record { number = firstOf (openTests band); receiver = fresh (cond
 
 -- ---- the ranges of a state
 
--- every field by itself is in its range, each of the 32 samples too (decision 18)
+-- every field by itself is in its range, each of the 32 samples too (decision 18), and the difference is there exactly where the stage has one
 unfoldable pub inRange : Receiver → Bool
-inRange s = isBand (s .band) && (areSamples (s .window) && isControl (controlOf s))
+inRange s = isBand (s .band) && (areSamples (s .window) && (isControl (controlOf s) && isKept (s .stage) (s .smallest)))
 
 -- ---- a block
 
@@ -59,13 +61,26 @@ testsOf ranged xs needed places =
 abbrev pub blockTests : (s : Receiver) (xs : List ℤ) (places : ℕ) → List Test
 blockTests s xs places = testsOf (inRange s) xs (placesFor (length xs)) places
 
-unfoldable pub blockOf : Receiver → List ℤ → List ℕ → Outcome Receiver (List ℕ)
-blockOf s xs lent = unlessRefused (blockTests s xs (length lent)) s lent (accepted (stateAfter s xs) (eventsAfter s xs) lent)
+-- the two lent lists, which are filled together: the numbers of the events and, place by place, their differences
+abbrev pub EventLists : Type 0
+EventLists = List ℕ × List ℤ
 
--- ---- a block with indices, which two lists are lent for: the events, and beside each the index of its sample in the block
+abbrev pub twoLists : Lending EventLists (ℕ × ℤ)
+twoLists = bothIn oneList oneList
 
--- of two lent lists, the shorter one's places are those that count
-unfoldable pub indexedOf : Receiver → List ℤ → List ℕ × List ℕ → Outcome Receiver (List ℕ × List ℕ)
+-- the shorter one's places are those that count
+abbrev pub shorter : EventLists → ℕ
+shorter lent = min (length (lent .0)) (length (lent .1))
+
+unfoldable pub blockOf : Receiver → List ℤ → EventLists → Outcome Receiver EventLists
+blockOf s xs lent =
+    unlessRefused (blockTests s xs (shorter lent)) s lent (acceptedIn twoLists (stateAfter s xs) (measuredAfter s xs) lent)
+
+-- ---- a block with indices, which a third list is lent for: beside each event the index of its sample in the block
+
+abbrev pub shortest : EventLists × List ℕ → ℕ
+shortest lent = min (shorter (lent .0)) (length (lent .1))
+
+unfoldable pub indexedOf : Receiver → List ℤ → EventLists × List ℕ → Outcome Receiver (EventLists × List ℕ)
 indexedOf s xs lent =
-    unlessRefused (blockTests s xs (min (length (lent .0)) (length (lent .1)))) s lent
-    (acceptedIn (bothIn oneList oneList) (stateAfter s xs) (indexedAfter s xs) lent)
+    unlessRefused (blockTests s xs (shortest lent)) s lent (acceptedIn (bothIn twoLists oneList) (stateAfter s xs) (indexedAfter s xs) lent)

@@ -1,5 +1,5 @@
--- The step rule: what one sample, and a list of samples, does to a receiver: the specification, "Reader, step by step". What a decision does
--- to run and stage, its rules 3 to 6, stands in `control`.
+-- The step rule: what one sample, and a list of samples, does to a receiver: the specification, "Reader, step by step" and "Quality beside
+-- each character". What a decision does to run and stage, its rules 3 to 6, stands in `control`, and to the smallest difference in `quality`.
 -- Assumes nothing.
 use mathlib.Core.List.{List, [], _∷_, _++_}
 use Prim.Native.Nat.{ℕ}
@@ -9,7 +9,9 @@ use Rattle.calls.specs.Runs.{after, gives, indexed}
 use Rattle.tones.specs.Bands.{tonesOf}
 use Rattle.control.specs.declared.Decision.{Decision}
 use Rattle.control.specs.declared.Control.{Control}
-use Rattle.control.specs.Rules.{controlAfter, reported}
+use Rattle.control.specs.Rules.{reported}
+use Rattle.quality.specs.declared.Tracked.{Tracked}
+use Rattle.quality.specs.Quality.{trackedAfter, measured}
 use Rattle.receiver.specs.declared.Receiver.{Receiver}
 use Rattle.receiver.specs.Energy.{decisionOf}
 
@@ -17,6 +19,10 @@ use Rattle.receiver.specs.Energy.{decisionOf}
 
 abbrev pub controlOf : Receiver → Control
 controlOf s = record { run = s .run; stage = s .stage }
+
+-- with the smallest difference
+abbrev pub trackedOf : Receiver → Tracked
+trackedOf s = record { control = controlOf s; smallest = s .smallest }
 
 -- rule 1: the sample enters the window and the oldest leaves
 abbrev pub entered : List ℤ → ℤ → List ℤ
@@ -29,14 +35,18 @@ decisionAt s x = decisionOf (tonesOf (s .band)) (entered (s .window) x)
 -- the state after the sample x
 unfoldable pub afterSample : Receiver → ℤ → Receiver
 afterSample s x =
-    let c : Control = controlAfter (controlOf s) (decisionAt s x) in
-    record { band = s .band; window = entered (s .window) x; run = c .run; stage = c .stage }
+    let c : Tracked = trackedAfter (trackedOf s) (decisionAt s x) in
+    record { band = s .band; window = entered (s .window) x; run = c .control .run; stage = c .control .stage; smallest = c .smallest }
 
--- the events of the sample x
+-- the numbers of its events
 unfoldable pub eventsAt : Receiver → ℤ → List ℕ
 eventsAt s x = reported (controlOf s) (decisionAt s x)
 
--- ---- a list of samples: the state after it, and the events in order
+-- its events, each with its difference
+unfoldable pub measuredAt : Receiver → ℤ → List (ℕ × ℤ)
+measuredAt s x = measured (trackedOf s) (decisionAt s x)
+
+-- ---- a list of samples: the state after it, and the events in order, their numbers alone and each with its difference
 
 abbrev pub stateAfter : Receiver → List ℤ → Receiver
 stateAfter = after afterSample
@@ -44,6 +54,9 @@ stateAfter = after afterSample
 abbrev pub eventsAfter : Receiver → List ℤ → List ℕ
 eventsAfter = gives afterSample eventsAt
 
--- the events, each with the index of the sample that brings it; the first sample of the list has the index 0
-abbrev pub indexedAfter : Receiver → List ℤ → List (ℕ × ℕ)
-indexedAfter = indexed afterSample eventsAt 0
+abbrev pub measuredAfter : Receiver → List ℤ → List (ℕ × ℤ)
+measuredAfter = gives afterSample measuredAt
+
+-- these, each with the index of the sample that brings it; the first sample of the list has the index 0
+abbrev pub indexedAfter : Receiver → List ℤ → List ((ℕ × ℤ) × ℕ)
+indexedAfter = indexed afterSample measuredAt 0

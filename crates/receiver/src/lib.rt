@@ -1,5 +1,5 @@
-// The receiver, the specification's reader: opening, and blocks of samples to events. Events go to the front of a caller's list,
-// the specification's lent list; the state goes in and comes back by value.
+// The receiver, the specification's reader: opening, and blocks of samples to events. Events go to the front of a caller's lists, the
+// specification's lent lists: their numbers, and place by place their differences. The state goes in and comes back by value.
 ghost use mathlib.Core.Path.{_≡_};
 ghost use Prim.Native.Nat.{_≤_};
 ghost use lib.ListN.{length};
@@ -19,17 +19,19 @@ mod seek;
 use calls::Answer;
 use control::Control;
 use control::Stage;
+use quality::Difference;
 
 // The most events of a block: the places that the longest one needs.
 pub const MOST_EVENTS: usize = tones::MOST_SAMPLES / 48 + 1;
 
-// The last 32 samples, oldest first, a band, the run of samples with a good level, and the stage. The samples stand first, since copies of
-// a state are quicker so.
+// The last 32 samples, oldest first, a band, the run of samples with a good level, the stage, and the smallest difference of the energies over
+// the data slots of a character so far. The samples stand first, since copies of a state are quicker so.
 pub struct Receiver {
     pub window: [i16; 32],
     pub band: u8,
     pub run: u8,
     pub stage: Stage,
+    pub smallest: Difference,
 }
 
 // What an opening answers: 0 and the fresh state, or the number of a refusal and the fresh state of band 1.
@@ -62,44 +64,52 @@ impl Receiver {
         }
     }
 
-    // Reads a block of samples.
-    pub fn block(self, samples: &[i16], events: &mut [u16]) -> Reading
-        ensures { λ r. ⌜ outcome (r .answer) (r .receiver) (now (events .exit))
-            ≡ blockOf self (now (samples .entry)) (now (events .entry)) ⌝ }
+    // Reads a block of samples: the numbers of its events go to `events`, and the difference of each to its place in `differences`.
+    pub fn block(self, samples: &[i16], events: &mut [u16], differences: &mut [i64]) -> Reading
+        ensures { λ r. ⌜ outcome (r .answer) (r .receiver) (now (events .exit), now (differences .exit))
+            ≡ blockOf self (now (samples .entry)) (now (events .entry), now (differences .entry)) ⌝ }
     {
         let mut none = [0u16; 0];
-        let places = events.len();
-        self.block_in(samples, events, &mut none, places)
+        let places = moves::least(events.len(), differences.len());
+        self.block_in(samples, events, differences, &mut none, places)
     }
 
     // Reads a block of samples, and tells with which of them each event came: the index in the block goes to the event's place in
     // `indices`.
-    pub fn block_indexed(self, samples: &[i16], events: &mut [u16], indices: &mut [u16]) -> Reading
-        ensures { λ r. ⌜ outcome (r .answer) (r .receiver) (now (events .exit), now (indices .exit))
-            ≡ indexedOf self (now (samples .entry)) (now (events .entry), now (indices .entry)) ⌝ }
+    pub fn block_indexed(
+        self,
+        samples: &[i16],
+        events: &mut [u16],
+        differences: &mut [i64],
+        indices: &mut [u16],
+    ) -> Reading
+        ensures { λ r. ⌜ outcome (r .answer) (r .receiver) ((now (events .exit), now (differences .exit)), now (indices .exit))
+            ≡ indexedOf self (now (samples .entry)) ((now (events .entry), now (differences .entry)), now (indices .entry)) ⌝ }
     {
-        let places = moves::least(events.len(), indices.len());
-        self.block_in(samples, events, indices, places)
+        let both = moves::least(events.len(), differences.len());
+        let places = moves::least(both, indices.len());
+        self.block_in(samples, events, differences, indices, places)
     }
 
-    // Reads a block with so many places of `events`, and tells the indices as far as there are places for them.
+    // Reads a block with so many places of `events` and `differences`, and tells the indices as far as there are places for them.
     fn block_in(
         self,
         samples: &[i16],
         events: &mut [u16],
+        differences: &mut [i64],
         indices: &mut [u16],
         places: usize,
     ) -> Reading
-        requires { ⌜ places ≤ length (now events) ⌝ }
-        ensures read { λ r. ⌜ outcome (r .answer) (r .receiver) (now (events .exit))
-            ≡ blockIn self (now (samples .entry)) places (now (events .entry)) ⌝ }
+        requires { ⌜ (places ≤ length (now events)) × (places ≤ length (now differences)) ⌝ }
+        ensures read { λ r. ⌜ outcome (r .answer) (r .receiver) (now (events .exit), now (differences .exit))
+            ≡ blockIn self (now (samples .entry)) places (now (events .entry), now (differences .entry)) ⌝ }
         ensures told { λ r. ⌜ now (indices .exit) ≡ indicesIn self (now (samples .entry)) places (now (indices .entry)) ⌝ }
     {
         let number = self.refusal(samples, places);
         if number != 0 {
             return self.refused(number);
         }
-        block::read(self, samples, events, indices)
+        block::read(self, samples, events, differences, indices)
     }
 
     // The number of the first reason to refuse a block with so many places lent, or 0.
@@ -129,16 +139,19 @@ impl Receiver {
     {
         let window = self.window;
         let stage = self.stage;
+        let smallest = self.smallest;
         if !tones::is_band(self.band) {
-            false
-        } else if !tones::are_samples(&window) {
-            false
-        } else {
-            control::is_control(Control {
-                run: self.run,
-                stage,
-            })
+            return false;
         }
+        if !tones::are_samples(&window) {
+            return false;
+        }
+        let kept = quality::is_kept(stage, smallest);
+        control::is_control(Control {
+            run: self.run,
+            stage,
+        })
+            && kept
     }
 
     // The state as handed, beside the number of a refusal.

@@ -5,15 +5,18 @@ use mathlib.Core.Bool.{cond}
 use mathlib.Core.List.{List}
 use Prim.Native.Nat.{ℕ}
 use lib.Dec.{eqb}
-use lib.IntN.{ℤ}
+use lib.IntN.{ℤ, pos, negsuc}
 use Rattle.calls.specs.Outcome.{Outcome}
 use Rattle.control.specs.declared.Stage.{Stage}
 use Rattle.control.specs.declared.Stage.the-variants.{Searching, Waiting, Held}
+use Rattle.quality.specs.declared.Difference.{Difference}
+use Rattle.quality.specs.declared.Difference.the-variants.{None, Of}
 use Rattle.receiver.specs.declared.Receiver.{Receiver}
 use Rattle.receiver.specs.declared.Opened.{Opened}
 use Rattle.receiver.specs.declared.Reading.{Reading}
-use Rattle.receiver.specs.Calls.{blockOf, indexedOf}
+use Rattle.receiver.specs.Calls.{EventLists, blockOf, indexedOf}
 use Rattle.receiving.specs.declared.StageNumbers.{StageNumbers}
+use Rattle.receiving.specs.declared.DifferenceNumbers.{DifferenceNumbers}
 use Rattle.receiving.specs.declared.State.{State}
 use Rattle.receiving.specs.declared.Opening.{Opening}
 use Rattle.receiving.specs.declared.Block.{Block}
@@ -32,6 +35,17 @@ stageOf n =
     cond (eqb (n .stage) 0) Searching
     (cond (eqb (n .stage) 1) (Waiting (n .wait) (n .slot) (n .byte)) (cond (eqb (n .stage) 2) Held (Waiting 0 0 0)))
 
+-- ---- a smallest difference
+
+-- its numbers
+abbrev pub differenceNumbers : Difference → DifferenceNumbers
+differenceNumbers None = record { measured = 0; smallest = pos 0 }
+differenceNumbers (Of least) = record { measured = 1; smallest = least }
+
+-- the difference of numbers: 0 is none and 1 the number beside it; any other is taken as -1, which is out of the ranges
+abbrev pub differenceOf : DifferenceNumbers → Difference
+differenceOf n = cond (eqb (n .measured) 0) None (cond (eqb (n .measured) 1) (Of (n .smallest)) (Of (negsuc 0)))
+
 -- ---- a state
 
 abbrev pub receiverOf : State → Receiver
@@ -41,15 +55,26 @@ receiverOf s =
       window = s .window;
       run = s .run;
       stage = stageOf (record { stage = s .stage; wait = s .wait; slot = s .slot; byte = s .byte });
+      smallest = differenceOf (record { measured = s .measured; smallest = s .smallest });
     }
 
--- a state from the numbers of its stage and the other fields
-abbrev pub stateOf : ℕ → List ℤ → ℕ → StageNumbers → State
-stateOf band window run n =
-    record { band = band; window = window; run = run; stage = n .stage; wait = n .wait; slot = n .slot; byte = n .byte }
+-- a state from the numbers of its stage and of its difference, and the other fields
+abbrev pub stateOf : ℕ → List ℤ → ℕ → StageNumbers → DifferenceNumbers → State
+stateOf band window run n d =
+    record {
+      band = band;
+      window = window;
+      run = run;
+      stage = n .stage;
+      wait = n .wait;
+      slot = n .slot;
+      byte = n .byte;
+      measured = d .measured;
+      smallest = d .smallest;
+    }
 
 abbrev pub numbersOf : Receiver → State
-numbersOf r = stateOf (r .band) (r .window) (r .run) (stageNumbers (r .stage))
+numbersOf r = stateOf (r .band) (r .window) (r .run) (stageNumbers (r .stage)) (differenceNumbers (r .smallest))
 
 -- ---- the calls
 
@@ -71,9 +96,9 @@ outcomeNumbers handed o =
     record { number = o .number; count = o .count; state = nextNumbers (o .number) (o .state) handed; lent = o .lent }
 
 -- a block call on the numbers of a state
-abbrev pub blockNumbers : State → List ℤ → List ℕ → Outcome State (List ℕ)
+abbrev pub blockNumbers : State → List ℤ → EventLists → Outcome State EventLists
 blockNumbers handed xs lent = outcomeNumbers handed (blockOf (receiverOf handed) xs lent)
 
 -- the same with indices
-abbrev pub indexedNumbers : State → List ℤ → List ℕ × List ℕ → Outcome State (List ℕ × List ℕ)
+abbrev pub indexedNumbers : State → List ℤ → EventLists × List ℕ → Outcome State (EventLists × List ℕ)
 indexedNumbers handed xs lent = outcomeNumbers handed (indexedOf (receiverOf handed) xs lent)

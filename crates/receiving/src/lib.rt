@@ -2,16 +2,18 @@
 ghost use mathlib.Core.Path.{_≡_};
 ghost use Rattle.calls.specs.Outcome.{answerOf, outcome};
 ghost use Rattle.receiver.specs.Calls.{openOf};
-ghost use Rattle.receiving.specs.Numbers.{stageOf, stageNumbers, receiverOf, numbersOf, openedNumbers, readingNumbers, blockNumbers, indexedNumbers};
+ghost use Rattle.receiving.specs.Numbers.{stageOf, stageNumbers, differenceOf, differenceNumbers, receiverOf, numbersOf, openedNumbers, readingNumbers, blockNumbers, indexedNumbers};
 
 mod testing;
 
 use control::Stage;
+use quality::Difference;
 use receiver::Reading;
 use receiver::Receiver;
 
 // A receiver's state as numbers. Stage 0 is searching, stage 1 is waiting, with its wait, slot and byte, and stage 2 is a held break; where
-// a call gives 0 or 2, these three are 0. Any other stage is out of its range.
+// a call gives 0 or 2, these three are 0. Any other stage is out of its range. Where `measured` is 1, `smallest` is the smallest difference so
+// far; where it is 0 there is none, and a call gives 0 for both. Any other number of it is out of its range.
 #[repr(C)]
 pub struct State {
     pub band: u8,
@@ -21,6 +23,8 @@ pub struct State {
     pub wait: u8,
     pub slot: u8,
     pub byte: u8,
+    pub measured: u8,
+    pub smallest: i64,
 }
 
 // What an opening answers: the number, and the fresh state of the band, or of band 1 if it is refused.
@@ -46,6 +50,12 @@ struct StageNumbers {
     byte: u8,
 }
 
+// The numbers of a smallest difference by themselves.
+struct DifferenceNumbers {
+    measured: u8,
+    smallest: i64,
+}
+
 // Opens a band.
 #[no_mangle]
 pub extern "C" fn modem_receiver_open(band: u8) -> Opening
@@ -59,18 +69,19 @@ pub extern "C" fn modem_receiver_open(band: u8) -> Opening
     }
 }
 
-// Reads a block of samples. A refused call gives back the state as it was handed, even where its numbers are not those that a call
-// gives for it.
+// Reads a block of samples: the numbers of its events go to `events`, and the difference of each to its place in `differences`. A refused call
+// gives back the state as it was handed, even where its numbers are not those that a call gives for it.
 #[no_mangle]
 pub extern "C" fn modem_receiver_block(
     receiver: State,
     samples: &[i16],
     events: &mut [u16],
+    differences: &mut [i64],
 ) -> Block
-    ensures { λ r. ⌜ outcome (answerOf (r .number) (r .count)) (r .receiver) (now (events .exit))
-        ≡ blockNumbers receiver (now (samples .entry)) (now (events .entry)) ⌝ }
+    ensures { λ r. ⌜ outcome (answerOf (r .number) (r .count)) (r .receiver) (now (events .exit), now (differences .exit))
+        ≡ blockNumbers receiver (now (samples .entry)) (now (events .entry), now (differences .entry)) ⌝ }
 {
-    let reading = receiver_of(receiver).block(samples, events);
+    let reading = receiver_of(receiver).block(samples, events, differences);
     reading_numbers(reading, receiver)
 }
 
@@ -80,12 +91,13 @@ pub extern "C" fn modem_receiver_block_indexed(
     receiver: State,
     samples: &[i16],
     events: &mut [u16],
+    differences: &mut [i64],
     indices: &mut [u16],
 ) -> Block
-    ensures { λ r. ⌜ outcome (answerOf (r .number) (r .count)) (r .receiver) (now (events .exit), now (indices .exit))
-        ≡ indexedNumbers receiver (now (samples .entry)) (now (events .entry), now (indices .entry)) ⌝ }
+    ensures { λ r. ⌜ outcome (answerOf (r .number) (r .count)) (r .receiver) ((now (events .exit), now (differences .exit)), now (indices .exit))
+        ≡ indexedNumbers receiver (now (samples .entry)) ((now (events .entry), now (differences .entry)), now (indices .entry)) ⌝ }
 {
-    let reading = receiver_of(receiver).block_indexed(samples, events, indices);
+    let reading = receiver_of(receiver).block_indexed(samples, events, differences, indices);
     reading_numbers(reading, receiver)
 }
 
@@ -121,11 +133,16 @@ pub fn receiver_of(state: State) -> Receiver
         slot: state.slot,
         byte: state.byte,
     });
+    let smallest = difference_of(DifferenceNumbers {
+        measured: state.measured,
+        smallest: state.smallest,
+    });
     Receiver {
         band: state.band,
         window,
         run: state.run,
         stage,
+        smallest,
     }
 }
 
@@ -135,7 +152,9 @@ pub fn numbers_of(receiver: Receiver) -> State
 {
     let window = receiver.window;
     let stage = receiver.stage;
+    let smallest = receiver.smallest;
     let n = stage_numbers(stage);
+    let d = difference_numbers(smallest);
     State {
         band: receiver.band,
         window,
@@ -144,6 +163,8 @@ pub fn numbers_of(receiver: Receiver) -> State
         wait: n.wait,
         slot: n.slot,
         byte: n.byte,
+        measured: d.measured,
+        smallest: d.smallest,
     }
 }
 
@@ -191,6 +212,34 @@ fn stage_numbers(stage: Stage) -> StageNumbers
             wait: 0,
             slot: 0,
             byte: 0,
+        },
+    }
+}
+
+// The smallest difference of its numbers. That of a number above 1 is negative, so that a call refuses it.
+fn difference_of(n: DifferenceNumbers) -> Difference
+    ensures { λ r. ⌜ r ≡ differenceOf n ⌝ }
+{
+    if n.measured == 0 {
+        Difference::None
+    } else if n.measured == 1 {
+        Difference::Of(n.smallest)
+    } else {
+        Difference::Of(-1)
+    }
+}
+
+fn difference_numbers(smallest: Difference) -> DifferenceNumbers
+    ensures { λ r. ⌜ r ≡ differenceNumbers smallest ⌝ }
+{
+    match smallest {
+        Difference::None => DifferenceNumbers {
+            measured: 0,
+            smallest: 0,
+        },
+        Difference::Of(least) => DifferenceNumbers {
+            measured: 1,
+            smallest: least,
         },
     }
 }

@@ -13,11 +13,12 @@ pub extern "C" fn modem_test_block_lent(
     receiver: State,
     samples: &[i16],
     events: &mut [u16],
+    differences: &mut [i64],
 ) -> Block
-    ensures { λ r. ⌜ outcome (answerOf (r .number) (r .count)) (r .receiver) (now (events .exit))
-        ≡ blockNumbers receiver (now (samples .entry)) (now (events .entry)) ⌝ }
+    ensures { λ r. ⌜ outcome (answerOf (r .number) (r .count)) (r .receiver) (now (events .exit), now (differences .exit))
+        ≡ blockNumbers receiver (now (samples .entry)) (now (events .entry), now (differences .entry)) ⌝ }
 {
     let state = receiver_of(receiver);
-    let reading = lent::block_by_value(state, samples, events);
+    let reading = lent::block_by_value(state, samples, events, differences);
     reading_numbers(reading, receiver)
 }

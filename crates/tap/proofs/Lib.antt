@@ -1,5 +1,6 @@
 pub mod Pairs
 pub mod Numbers
+pub mod Measured
 pub mod Merging
 pub mod Order
 pub mod Blocks

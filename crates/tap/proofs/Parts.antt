@@ -22,29 +22,37 @@ use Rattle.receiver.proofs.Ranges.{state-kept}
 use Rattle.receiver.proofs.Events.{events-known}
 use Rattle.receiver.proofs.Windows.{band-after}
 use Rattle.tap.specs.declared.Tap.{Tap}
-use Rattle.tap.specs.Step.{inBand, afterSample, eventsAt, stateAfter, eventsAfter}
+use Rattle.tap.specs.Step.{inBand, measuredIn, afterSample, measuredAt, stateAfter, measuredAfter}
 use Rattle.tap.specs.Calls.{inRange}
-use Rattle.tap.specs.Lists.{ofBand}
+use Rattle.tap.specs.Lists.{measuredOfBand}
+use Rattle.tap.specs.AsCoded.{numbersOf}
+use Rattle.tap.proofs.Measured.{numbers-at}
 use Rattle.tap.proofs.Blocks.{small, InRange, in-range, both-after}
 
 -- ---- the events of a band
 
-own : (band : ℕ) (ns : List ℕ) → All (λ n. n < 1000) ns → ofBand band (map (inBand band) ns) ≡ ns
-own band [] none = refl
-own band (n ∷ ns) (more h hs) =
-    let number : inBand band n - 1000 * band ≡ n = omega arith in
-    rw (eq-eqb (inBand band n / 1000) band (omega arith), number) (ap (λ (l : List ℕ). n ∷ l) (own band ns hs))
+-- events below 1,000, each with its difference
+abbrev Small : List (ℕ × ℤ) → Type 0
+Small es = All (λ n. n < 1000) (numbersOf es)
 
-other : (band else : ℕ) → (else ≡ band → ⊥) → (ns : List ℕ) → All (λ n. n < 1000) ns → ofBand band (map (inBand else) ns) ≡ []
+own : (band : ℕ) (es : List (ℕ × ℤ)) → Small es → measuredOfBand band (map (measuredIn band) es) ≡ es
+own band [] none = refl
+own band (e ∷ es) (more h hs) =
+    let number : inBand band (e .0) - 1000 * band ≡ e .0 = omega arith in
+    rw (eq-eqb (inBand band (e .0) / 1000) band (omega arith), number) (ap (λ (l : List (ℕ × ℤ)). e ∷ l) (own band es hs))
+
+other : (band else : ℕ) → (else ≡ band → ⊥) → (es : List (ℕ × ℤ)) → Small es → measuredOfBand band (map (measuredIn else) es) ≡ []
 other band else d [] none = refl
-other band else d (n ∷ ns) (more h hs) =
-    let q : inBand else n / 1000 ≡ else = omega arith in
-    rw (ne-eqb (inBand else n / 1000) band (λ e. d (sym q ∙ e))) (other band else d ns hs)
+other band else d (e ∷ es) (more h hs) =
+    let q : inBand else (e .0) / 1000 ≡ else = omega arith in
+    rw (ne-eqb (inBand else (e .0) / 1000) band (λ r. d (sym q ∙ r))) (other band else d es hs)
 
 -- those of one sample are below 1,000
-small-at : (s : Receiver) (x : ℤ) → calls.inRange s ≡ true → All (λ n. n < 1000) (receiver.eventsAt s x)
+small-at : (s : Receiver) (x : ℤ) → calls.inRange s ≡ true → Small (receiver.measuredAt s x)
 unfolding gives
-small-at s x h = rw (append-nil (receiver.eventsAt s x)) at (small (receiver.eventsAfter s (x ∷ [])) (events-known s (x ∷ []) h))
+small-at s x h =
+    rw (numbers-at s x)
+    (rw (append-nil (receiver.eventsAt s x)) at (small (receiver.eventsAfter s (x ∷ [])) (events-known s (x ∷ []) h)))
 
 -- ---- the ranges of a tap
 
@@ -63,19 +71,19 @@ bands-differ t p e = omega (arith, pair-next (t .first .band) (t .second .band) 
 
 pub record IsPart (part : Tap → Receiver) : Type 0 where
   pub moves : (t : Tap) (x : ℤ) → part (afterSample t x) ≡ receiver.afterSample (part t) x
-  pub shows : (t : Tap) (x : ℤ) → InRange t → ofBand (part t .band) (eventsAt t x) ≡ receiver.eventsAt (part t) x
+  pub shows : (t : Tap) (x : ℤ) → InRange t → measuredOfBand (part t .band) (measuredAt t x) ≡ receiver.measuredAt (part t) x
 
 -- the events at a sample, as the part of either band has them
-module _ (t : Tap) (x : ℤ) (r : InRange t) (band : ℕ) where
-  abbrev one : List ℕ
-  one = receiver.eventsAt (t .first) x
+module _ (t : Tap) (x : ℤ) (band : ℕ) where
+  abbrev one : List (ℕ × ℤ)
+  one = map (measuredIn (t .first .band)) (receiver.measuredAt (t .first) x)
 
-  abbrev two : List ℕ
-  two = receiver.eventsAt (t .second) x
+  abbrev two : List (ℕ × ℤ)
+  two = map (measuredIn (t .second .band)) (receiver.measuredAt (t .second) x)
 
-  parts-at : ofBand band (eventsAt t x) ≡ ofBand band (map (inBand (t .first .band)) one) ++ ofBand band (map (inBand (t .second .band)) two)
-  unfolding eventsAt
-  parts-at = each-append _ (map (inBand (t .first .band)) one) (map (inBand (t .second .band)) two)
+  parts-at : measuredOfBand band (measuredAt t x) ≡ measuredOfBand band one ++ measuredOfBand band two
+  unfolding measuredAt
+  parts-at = each-append _ one two
 
 pub first-part : IsPart (λ t. t .first)
 unfolding afterSample
@@ -83,11 +91,11 @@ first-part =
     record {
       moves = λ t x. refl;
       shows = λ t x r.
-          parts-at t x r (t .first .band)
-          ∙ ap₂ (λ (l m : List ℕ). l ++ m)
-          (own (t .first .band) (receiver.eventsAt (t .first) x) (small-at (t .first) x (r .first)))
-          (other (t .first .band) (t .second .band) (λ e. bands-differ t (r .pair) (sym e)) (receiver.eventsAt (t .second) x) (small-at (t .second) x (r .second)))
-          ∙ append-nil (receiver.eventsAt (t .first) x);
+          parts-at t x (t .first .band)
+          ∙ ap₂ (λ (l m : List (ℕ × ℤ)). l ++ m)
+          (own (t .first .band) (receiver.measuredAt (t .first) x) (small-at (t .first) x (r .first)))
+          (other (t .first .band) (t .second .band) (λ e. bands-differ t (r .pair) (sym e)) (receiver.measuredAt (t .second) x) (small-at (t .second) x (r .second)))
+          ∙ append-nil (receiver.measuredAt (t .first) x);
     }
 
 pub second-part : IsPart (λ t. t .second)
@@ -96,10 +104,10 @@ second-part =
     record {
       moves = λ t x. refl;
       shows = λ t x r.
-          parts-at t x r (t .second .band)
-          ∙ ap₂ (λ (l m : List ℕ). l ++ m)
-          (other (t .second .band) (t .first .band) (bands-differ t (r .pair)) (receiver.eventsAt (t .first) x) (small-at (t .first) x (r .first)))
-          (own (t .second .band) (receiver.eventsAt (t .second) x) (small-at (t .second) x (r .second)));
+          parts-at t x (t .second .band)
+          ∙ ap₂ (λ (l m : List (ℕ × ℤ)). l ++ m)
+          (other (t .second .band) (t .first .band) (bands-differ t (r .pair)) (receiver.measuredAt (t .first) x) (small-at (t .first) x (r .first)))
+          (own (t .second .band) (receiver.measuredAt (t .second) x) (small-at (t .second) x (r .second)));
     }
 
 -- ---- a part over a list of samples
@@ -111,7 +119,7 @@ module _ {part : Tap → Receiver} (is : IsPart part) where
   part-after t (x ∷ xs) = part-after (afterSample t x) xs ∙ ap (λ (s : Receiver). receiver.stateAfter s xs) (is .moves t x)
 
   pub part-events : (t : Tap) (xs : List ℤ) → inRange t ≡ true → areSamples xs ≡ true
-      → ofBand (part t .band) (eventsAfter t xs) ≡ receiver.eventsAfter (part t) xs
+      → measuredOfBand (part t .band) (measuredAfter t xs) ≡ receiver.measuredAfter (part t) xs
   unfolding after gives
   part-events t [] h l = refl
   part-events t (x ∷ xs) h l =
@@ -120,8 +128,8 @@ module _ {part : Tap → Receiver} (is : IsPart part) where
       let later : areSamples xs ≡ true = and-elim-right (areSamples (x ∷ [])) (areSamples xs) (sym both ∙ l) in
       let next : Tap = afterSample t x in
       let same : part next .band ≡ part t .band = ap (λ (s : Receiver). s .band) (is .moves t x) ∙ band-after (part t) (x ∷ []) in
-      each-append _ (eventsAt t x) (eventsAfter next xs)
-      ∙ ap₂ (λ (l m : List ℕ). l ++ m) (is .shows t x (in-range t h))
-      (ap (λ (b : ℕ). ofBand b (eventsAfter next xs)) (sym same)
+      each-append _ (measuredAt t x) (measuredAfter next xs)
+      ∙ ap₂ (λ (l m : List (ℕ × ℤ)). l ++ m) (is .shows t x (in-range t h))
+      (ap (λ (b : ℕ). measuredOfBand b (measuredAfter next xs)) (sym same)
       ∙ part-events next xs (range-kept t (x ∷ []) h now) later
-      ∙ ap (λ (s : Receiver). receiver.eventsAfter s xs) (is .moves t x))
+      ∙ ap (λ (s : Receiver). receiver.measuredAfter s xs) (is .moves t x))

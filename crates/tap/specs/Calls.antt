@@ -1,4 +1,4 @@
--- The tap's calls: the specification, "Both directions on one tap" and "Refused calls".
+-- The tap's calls: the specification, "Both directions on one tap", "Refused calls" and "Quality beside each character".
 -- Assumes nothing.
 use mathlib.Core.Bool.{Bool, cond, not, _&&_}
 use mathlib.Core.List.{List, [], _∷_}
@@ -7,12 +7,13 @@ use lib.Dec.{eqb}
 use lib.IntN.{ℤ}
 use lib.ListN.{length}
 use Rattle.calls.specs.Refusals.{Test, test, firstOf}
-use Rattle.calls.specs.Outcome.{Outcome, unlessRefused, accepted}
+use Rattle.calls.specs.Outcome.{Outcome, unlessRefused, acceptedIn}
 use Rattle.tones.specs.Bands.{isBand, isPair}
 use Rattle.receiver.specs.Calls as receiver
+use Rattle.receiver.specs.Calls.{EventLists, twoLists, shorter}
 use Rattle.tap.specs.declared.Tap.{Tap}
 use Rattle.tap.specs.declared.OpenedTap.{OpenedTap}
-use Rattle.tap.specs.Step.{stateAfter, eventsAfter}
+use Rattle.tap.specs.Step.{stateAfter, measuredAfter}
 
 -- ---- opening
 
@@ -45,5 +46,7 @@ placesFor n = 2 * receiver.placesFor n
 abbrev pub blockTests : (t : Tap) (xs : List ℤ) (places : ℕ) → List Test
 blockTests t xs places = receiver.testsOf (inRange t) xs (placesFor (length xs)) places
 
-unfoldable pub blockOf : Tap → List ℤ → List ℕ → Outcome Tap (List ℕ)
-blockOf t xs lent = unlessRefused (blockTests t xs (length lent)) t lent (accepted (stateAfter t xs) (eventsAfter t xs) lent)
+-- the numbers of the events fill the first list, and their differences the second
+unfoldable pub blockOf : Tap → List ℤ → EventLists → Outcome Tap EventLists
+blockOf t xs lent =
+    unlessRefused (blockTests t xs (shorter lent)) t lent (acceptedIn twoLists (stateAfter t xs) (measuredAfter t xs) lent)

@@ -1,5 +1,6 @@
 // A tap on a line that carries a pair of bands: one receiver of each, fed the same blocks. The events of both go to one list.
 ghost use mathlib.Core.Path.{_≡_};
+ghost use Prim.Native.Nat.{min};
 ghost use Rattle.calls.specs.Refusals.{firstOf};
 ghost use Rattle.calls.specs.Outcome.{outcome};
 ghost use Rattle.receiver.specs.Calls as receiver;
@@ -48,24 +49,28 @@ impl Tap {
         }
     }
 
-    // Reads a block of samples with both receivers, each into lists of its own, and merges their events.
-    pub fn block(self, samples: &[i16], events: &mut [u16]) -> TapReading
-        ensures { λ r. ⌜ outcome (r .answer) (r .tap) (now (events .exit))
-            ≡ blockOf self (now (samples .entry)) (now (events .entry)) ⌝ }
+    // Reads a block of samples with both receivers, each into lists of its own, and merges their events: the numbers go to `events`, and the
+    // difference of each to its place in `differences`.
+    pub fn block(self, samples: &[i16], events: &mut [u16], differences: &mut [i64]) -> TapReading
+        ensures { λ r. ⌜ outcome (r .answer) (r .tap) (now (events .exit), now (differences .exit))
+            ≡ blockOf self (now (samples .entry)) (now (events .entry), now (differences .entry)) ⌝ }
     {
         let first = self.first;
         let second = self.second;
         let mut one = [0u16; MOST_EVENTS];
+        let mut one_by = [0i64; MOST_EVENTS];
         let mut one_at = [0u16; MOST_EVENTS];
         let mut two = [0u16; MOST_EVENTS];
+        let mut two_by = [0i64; MOST_EVENTS];
         let mut two_at = [0u16; MOST_EVENTS];
-        let read_one = first.block_indexed(samples, &mut one, &mut one_at);
-        let read_two = second.block_indexed(samples, &mut two, &mut two_at);
+        let read_one = first.block_indexed(samples, &mut one, &mut one_by, &mut one_at);
+        let read_two = second.block_indexed(samples, &mut two, &mut two_by, &mut two_at);
         let answer_one = read_one.answer;
         let answer_two = read_two.answer;
         let next_one = read_one.receiver;
         let next_two = read_two.receiver;
-        let number = self.refusal(answer_one.number, answer_two.number, samples, events.len());
+        let places = least(events.len(), differences.len());
+        let number = self.refusal(answer_one.number, answer_two.number, samples, places);
         if number != 0 {
             return refused(first, second, number);
         }
@@ -74,11 +79,14 @@ impl Tap {
         let count = merge::merge(
             first.band,
             &one[..m],
+            &one_by[..m],
             &one_at[..m],
             second.band,
             &two[..n],
+            &two_by[..n],
             &two_at[..n],
             events,
+            differences,
         );
         TapReading {
             tap: Tap {
@@ -123,4 +131,11 @@ fn refused(first: Receiver, second: Receiver, number: u8) -> TapReading
         tap: Tap { first, second },
         answer: Answer { number, count: 0 },
     }
+}
+
+// The places of the shorter list.
+fn least(a: usize, b: usize) -> usize
+    ensures { λ r. ⌜ r ≡ min a b ⌝ }
+{
+    if a < b { a } else { b }
 }

@@ -3,28 +3,32 @@ ghost use mathlib.Core.Path.{_≡_};
 ghost use Prim.Native.Nat.{_+_, _*_, _<_, _≤_};
 ghost use lib.ListN.{length, drop};
 ghost use lib.Seq.{sets};
-ghost use Rattle.integers.specs.All.{All};
 ghost use Rattle.tap.specs.Step.{inBand};
-ghost use Rattle.tap.specs.AsCoded.{comesFirst, mergedEvents};
+ghost use Rattle.tap.specs.AsCoded.{AreEvents, comesFirst, mergedEvents, numbersOf, differencesOf};
 
-// Merges two lists of events, `a` with the indices `p` of their samples and `b` with `q`, in the order of the indices; of one sample the
-// event of `a` goes first. Each is put down with the band of its list. Gives their count.
+// Merges two lists of events, `a` with the differences `c` and the indices `p` of their samples, and `b` with `d` and `q`, in the order of the
+// indices; of one sample the event of `a` goes first. Each is put down with the band of its list, and its difference at the same place. Gives
+// their count.
 pub(crate) fn merge(
     first: u8,
     a: &[u16],
+    c: &[i64],
     p: &[u16],
     second: u8,
     b: &[u16],
+    d: &[i64],
     q: &[u16],
     out: &mut [u16],
+    beside: &mut [i64],
 ) -> usize
     requires { ⌜ (first ≤ 60) × (second ≤ 60) ⌝ }
-    requires { ⌜ (length (now a) ≡ length (now p)) × (length (now b) ≡ length (now q)) ⌝ }
-    requires { ⌜ All (λ n. n < 1000) (now a) × All (λ n. n < 1000) (now b) ⌝ }
-    requires { ⌜ length (now a) + length (now b) ≤ length (now out) ⌝ }
+    requires { ⌜ AreEvents (now a) (now c) (now p) × AreEvents (now b) (now d) (now q) ⌝ }
+    requires { ⌜ (length (now a) + length (now b) ≤ length (now out)) × (length (now a) + length (now b) ≤ length (now beside)) ⌝ }
     ensures count { λ r. ⌜ r ≡ length (now (a .entry)) + length (now (b .entry)) ⌝ }
-    ensures lent { λ r. ⌜ now (out .exit) ≡ sets (now (out .entry)) 0
-        (mergedEvents first (now (a .entry)) (now (p .entry)) second (now (b .entry)) (now (q .entry))) ⌝ }
+    ensures numbers { λ r. ⌜ now (out .exit) ≡ sets (now (out .entry)) 0
+        (numbersOf (mergedEvents first (now (a .entry)) (now (c .entry)) (now (p .entry)) second (now (b .entry)) (now (d .entry)) (now (q .entry)))) ⌝ }
+    ensures differences { λ r. ⌜ now (beside .exit) ≡ sets (now (beside .entry)) 0
+        (differencesOf (mergedEvents first (now (a .entry)) (now (c .entry)) (now (p .entry)) second (now (b .entry)) (now (d .entry)) (now (q .entry)))) ⌝ }
 {
     let total = a.len() + b.len();
     let mut i: usize = 0;
@@ -32,10 +36,14 @@ pub(crate) fn merge(
     while i + j < total {
         let at = i + j;
         if comes_first(p, i, q, j) {
+            let difference = c[i];
             out[at] = in_band(first, a[i]);
+            beside[at] = difference;
             i += 1;
         } else {
+            let difference = d[j];
             out[at] = in_band(second, b[j]);
+            beside[at] = difference;
             j += 1;
         }
     }

@@ -2,12 +2,12 @@
 -- Assumes nothing.
 use mathlib.Core.Path.{_≡_, refl, sym, ap, subst, _∙_}
 use mathlib.Core.Bool.{true}
-use mathlib.Core.List.{List, [], _∷_, _++_, map}
+use mathlib.Core.List.{List, [], _∷_, _++_, map, map-map}
 use mathlib.Core.Logic.{_⊎_, inl, inr}
 use mathlib.Mathlib.Data.Bool.Basic.{and-elim-left, and-elim-right}
 use Prim.Native.Nat.{ℕ, _≤_}
 use native.Mathlib.Omega.{arith}
-use lib.IntN.{ℤ}
+use lib.IntN.{ℤ, pos}
 use lib.ListN.{length, replicate, length-replicate}
 use Rattle.integers.specs.All.{All, none, more}
 use Rattle.calls.specs.Runs.{after}
@@ -19,9 +19,10 @@ use Rattle.tones.specs.Samples.{mostSamples, areSamples}
 use Rattle.tones.proofs.Laws.{pairs}
 use Rattle.tones.proofs.Samples.{samples-append}
 use Rattle.transmitter.specs.Calls as transmitter
-use Rattle.receiver.specs.Step.{afterSample, eventsAt, eventsAfter}
+use Rattle.receiver.specs.Step.{afterSample, measuredAt, eventsAfter, indexedAfter}
 use Rattle.receiver.specs.Calls as receiver
 use Rattle.receiver.specs.Lists as reading
+use Rattle.receiver.proofs.Counting.{measured-numbers}
 use Rattle.receiver.proofs.Lists.{one-reading}
 use Rattle.receiver.proofs.Indexed.{indexed-reading}
 use Rattle.tap.specs.declared.Tap.{Tap}
@@ -67,7 +68,7 @@ read-on-tap t =
 record Fits (c : tapping.Call) : Type 0 where
   few : length (c .samples) ≤ mostSamples
   samples : areSamples (c .samples) ≡ true
-  room : tap.placesFor (length (c .samples)) ≤ length (c .lent)
+  room : tap.placesFor (length (c .samples)) ≤ receiver.shorter (c .lent)
 
 accepts : (t : Tap) (c : tapping.Call) → tap.inRange t ≡ true → Fits c → Accepts (λ (u : Tap). tap.inRange u ≡ true) (tapping.callOf t c)
 unfolding after
@@ -82,7 +83,8 @@ calls-fit [] none h = none
 calls-fit (xs ∷ blocks) (more l ls) h =
     let both = sym (samples-append xs (joined blocks)) ∙ h in
     let places : ℕ = tap.placesFor (length xs) in
-    let room : places ≤ length (replicate {A = ℕ} places 0) = omega (arith, length-replicate {A = ℕ} places 0) in
+    let room : places ≤ receiver.shorter (replicate places 0, replicate places (pos 0)) =
+    omega (arith, length-replicate {A = ℕ} places 0, length-replicate {A = ℤ} places (pos 0)) in
     more (record { few = l; samples = and-elim-left (areSamples xs) (areSamples (joined blocks)) both; room = room })
     (calls-fit blocks ls (and-elim-right (areSamples xs) (areSamples (joined blocks)) both))
 
@@ -111,7 +113,10 @@ pairs-possible = ((of 1 2 (pairs .0) (inl refl), of 1 2 (pairs .0) (inr refl)), 
 pub read-with-indices : (t : Indexed disturbance) → ReadWithIndices t
 read-with-indices t =
     let s = receiver.fresh (t .transmission .band) in
-    ap (map (λ (e : ℕ × ℕ). e .0)) (indexed-reading s (t .calls) .events)
-    ∙ indexed-values afterSample eventsAt 0 s (reading.samplesRead s (map reading.withoutIndices (t .calls)))
+    let xs : List ℤ = reading.samplesRead s (map reading.withoutIndices (t .calls)) in
+    ap (map (λ (e : (ℕ × ℤ) × ℕ). e .0 .0)) (indexed-reading s (t .calls) .events)
+    ∙ sym (map-map (λ (e : ℕ × ℤ). e .0) (λ (e : (ℕ × ℤ) × ℕ). e .0) (indexedAfter s xs))
+    ∙ ap (map (λ (e : ℕ × ℤ). e .0)) (indexed-values afterSample measuredAt 0 s xs)
+    ∙ measured-numbers s xs
     ∙ ap (eventsAfter s) (t .read)
     ∙ recorded-events (t .transmission)

@@ -6,7 +6,7 @@ use mathlib.Core.Bool.{true}
 use mathlib.Core.List.{List, [], _∷_, map}
 use mathlib.Core.Logic.{_⊎_}
 use Prim.Native.Nat.{ℕ, _≤_}
-use lib.IntN.{ℤ}
+use lib.IntN.{ℤ, pos}
 use lib.ListN.{length, replicate}
 use Rattle.integers.specs.All.{All}
 use Rattle.calls.specs.Lists.{each}
@@ -51,7 +51,9 @@ ReadOnTap t = tapping.ofBand (t .transmission .band) (tapping.eventsRead (freshO
 -- a call for each block, with just the places that it needs
 abbrev pub tapCalls : List (List ℤ) → List tapping.Call
 tapCalls [] = []
-tapCalls (block ∷ blocks) = record { samples = block; lent = replicate (tap.placesFor (length block)) 0 } ∷ tapCalls blocks
+tapCalls (block ∷ blocks) =
+    let places : ℕ = tap.placesFor (length block) in
+    record { samples = block; lent = (replicate places 0, replicate places (pos 0)) } ∷ tapCalls blocks
 
 -- each way to cut a recording into blocks of at most 16,384 samples has such calls
 abbrev pub TapsPossible : Type 0
@@ -67,7 +69,7 @@ pub record Indexed (noise : ℕ) : Type 0 where
   pub calls : List reading.IndexedCall
   pub read : reading.samplesRead (receiver.fresh (transmission .band)) (map reading.withoutIndices calls) ≡ transmission .recorded
 
--- without their indices the events are the characters sent
+-- without their differences and indices the events are the characters sent
 abbrev pub ReadWithIndices : {noise : ℕ} → Indexed noise → Type 0
 ReadWithIndices t =
-    map (λ (e : ℕ × ℕ). e .0) (reading.indexedRead 0 (receiver.fresh (t .transmission .band)) (t .calls)) ≡ characters (t .transmission)
+    map (λ (e : (ℕ × ℤ) × ℕ). e .0 .0) (reading.indexedRead 0 (receiver.fresh (t .transmission .band)) (t .calls)) ≡ characters (t .transmission)

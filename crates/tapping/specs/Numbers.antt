@@ -7,6 +7,7 @@ use Prim.Native.Nat.{ℕ}
 use lib.Dec.{eqb}
 use lib.IntN.{ℤ}
 use Rattle.calls.specs.Outcome.{Outcome}
+use Rattle.receiver.specs.Calls.{EventLists}
 use Rattle.receiving.specs.Numbers.{receiverOf, numbersOf}
 use Rattle.tap.specs.declared.Tap.{Tap}
 use Rattle.tap.specs.declared.OpenedTap.{OpenedTap}
@@ -40,10 +41,10 @@ abbrev pub readingNumbers : TapReading → Taps → TapBlock
 readingNumbers r handed =
     record { tap = nextNumbers (r .answer .number) (r .tap) handed; number = r .answer .number; count = r .answer .count }
 
-abbrev pub outcomeNumbers : Taps → Outcome Tap (List ℕ) → Outcome Taps (List ℕ)
+abbrev pub outcomeNumbers : Taps → Outcome Tap EventLists → Outcome Taps EventLists
 outcomeNumbers handed o =
     record { number = o .number; count = o .count; state = nextNumbers (o .number) (o .state) handed; lent = o .lent }
 
 -- a block call on the numbers of a state
-abbrev pub blockNumbers : Taps → List ℤ → List ℕ → Outcome Taps (List ℕ)
+abbrev pub blockNumbers : Taps → List ℤ → EventLists → Outcome Taps EventLists
 blockNumbers handed xs lent = outcomeNumbers handed (blockOf (tapOf handed) xs lent)

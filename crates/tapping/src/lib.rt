@@ -42,13 +42,19 @@ pub extern "C" fn modem_tap_open(first: u8, second: u8) -> TapOpening
     }
 }
 
-// Reads a block of samples with both receivers. A refused call gives back the state as it was handed.
+// Reads a block of samples with both receivers, with the difference of each event beside its number. A refused call gives back the state as it
+// was handed.
 #[no_mangle]
-pub extern "C" fn modem_tap_block(tap: Taps, samples: &[i16], events: &mut [u16]) -> TapBlock
-    ensures { λ r. ⌜ outcome (answerOf (r .number) (r .count)) (r .tap) (now (events .exit))
-        ≡ blockNumbers tap (now (samples .entry)) (now (events .entry)) ⌝ }
+pub extern "C" fn modem_tap_block(
+    tap: Taps,
+    samples: &[i16],
+    events: &mut [u16],
+    differences: &mut [i64],
+) -> TapBlock
+    ensures { λ r. ⌜ outcome (answerOf (r .number) (r .count)) (r .tap) (now (events .exit), now (differences .exit))
+        ≡ blockNumbers tap (now (samples .entry)) (now (events .entry), now (differences .entry)) ⌝ }
 {
-    let reading = tap_of(tap).block(samples, events);
+    let reading = tap_of(tap).block(samples, events, differences);
     reading_numbers(reading, tap)
 }
 

@@ -3,18 +3,19 @@
 use mathlib.Core.Path.{_≡_, refl, sym, ap, _∙_}
 use mathlib.Core.Bool.{Bool, true, false, cond, false≢true, true≢false}
 use mathlib.Core.Logic.{_↔_}
-use Prim.Native.Nat.{ℕ, zero, suc, _+_, _*_, _-_, _/_, _≤_, zero-le, max, min}
+use Prim.Native.Nat.{ℕ, zero, suc, _+_, _*_, _-_, _/_, _<_, _≤_, zero-le, max, min}
 use native.Mathlib.Numerals.{sub-one}
 use native.Mathlib.Omega.{arith}
-use borrow.Author.Tests.{lt-ltb, le-ltb, leb-true}
+use borrow.Author.Tests.{lt-ltb, le-ltb, le-leb, leb-true}
 use lib.Dec.{ltb, leb}
-use lib.IntN.{ℤ, pos, negsuc, negℤ, natAbs, _*ℤ_}
-use lib.Signed.{ltZ, leZ}
+use lib.IntN.{ℤ, pos, negsuc, negℤ, natAbs, _-ℤ_, _*ℤ_}
+use lib.Signed.{ltZ, leZ, mag}
 use Rattle.integers.proofs.Order.{below-at-most, not-below-at-least}
-use Rattle.integers.proofs.Tests.{lt-or-le}
+use Rattle.integers.proofs.Ring.{pos--ℤ-pos}
+use Rattle.integers.proofs.Tests.{lt-or-le, cond-split}
 use Rattle.control.specs.declared.Bit.{Bit}
 use Rattle.control.specs.declared.Bit.the-variants.{Mark, Space, Doubtful}
-use Rattle.weighing.specs.Weighing.{level, larger, smaller, isDoubtful, weighed, decided, Means}
+use Rattle.weighing.specs.Weighing.{level, larger, smaller, isDoubtful, weighed, apart, decided, Means}
 
 -- four times the larger is less than five times the smaller exactly if they differ by less than a quarter of the smaller, rounded up
 pub near-test : (larger smaller : ℕ) → smaller ≤ larger → ltb (larger - smaller) ((smaller + 3) / 4) ≡ ltb (4 * larger) (5 * smaller)
@@ -59,6 +60,28 @@ in-order a b = go (ltZ a b) refl
     go true e = below-at-most a b e
     go false e = not-below-at-least a b e
 
+-- ---- the difference
+
+-- the second is not below 0
+pub apart-natural : (larger smaller : ℤ) → leZ smaller larger ≡ true → ltZ smaller (pos 0) ≡ false
+    → larger -ℤ smaller ≡ pos (natAbs larger - natAbs smaller)
+apart-natural (pos l) (pos s) h z = pos--ℤ-pos l s (leb-true s l h)
+apart-natural (negsuc l) (pos s) h z = absurd (false≢true h)
+apart-natural larger (negsuc s) h z = absurd (true≢false z)
+
+pub apart-fits : (larger smaller : ℤ) → leZ smaller larger ≡ true → ltZ smaller (pos 0) ≡ false → {H : ℕ} → mag larger < H → mag (larger -ℤ smaller) < H
+apart-fits (pos l) (pos s) h z f = rw (pos--ℤ-pos l s (leb-true s l h)) (omega arith)
+apart-fits (negsuc l) (pos s) h z f = absurd (false≢true h)
+apart-fits larger (negsuc s) h z f = absurd (true≢false z)
+
+-- it is never negative
+pub apart-least : (space mark : ℤ) → leZ (pos 0) (apart space mark) ≡ true
+unfolding apart
+apart-least space mark =
+    cond-split (λ (d : ℤ). leZ (pos 0) d ≡ true) (ltZ (smaller space mark) (pos 0)) _ _
+    (λ z. refl)
+    (λ z. rw (apart-natural (larger space mark) (smaller space mark) (in-order space mark) z) (le-leb 0 (natAbs (larger space mark) - natAbs (smaller space mark)) zero-le))
+
 -- ---- as natural numbers
 
 module _ (space mark : ℕ) where
@@ -74,6 +97,19 @@ module _ (space mark : ℕ) where
       let e : max space mark ≡ space = omega arith in
       let f : min space mark ≡ mark = omega arith in
       rw (le-ltb space mark h, e, f))
+
+  pub apart-ℕ : apart (pos space) (pos mark) ≡ pos (max space mark - min space mark)
+  unfolding apart
+  apart-ℕ =
+      lt-or-le space mark
+      (λ h.
+      let e : max space mark ≡ mark = omega arith in
+      let f : min space mark ≡ space = omega arith in
+      rw (lt-ltb space mark h, le-ltb space 0 zero-le, e, f) (pos--ℤ-pos mark space (omega arith)))
+      (λ h.
+      let e : max space mark ≡ space = omega arith in
+      let f : min space mark ≡ mark = omega arith in
+      rw (le-ltb space mark h, le-ltb mark 0 zero-le, e, f) (pos--ℤ-pos space mark h))
 
   pub level-ℕ : decided (pos space) (pos mark) .good ≡ leb level (max space mark)
   level-ℕ =

@@ -1,9 +1,9 @@
 -- What the energies of space and mark in a window decide: the specification, "Reader, step by step", rule 3 and the comparison of rules 4
--- to 6, and "Doubtful bits".
+-- to 6, "Doubtful bits" and "Quality beside each character".
 -- Assumes nothing.
 use mathlib.Core.Bool.{Bool, cond}
 use Prim.Native.Nat.{ℕ, _*_, _<_, _≤_, max, min}
-use lib.IntN.{ℤ, pos, _*ℤ_}
+use lib.IntN.{ℤ, pos, _-ℤ_, _*ℤ_}
 use lib.Signed.{ltZ, leZ}
 use Rattle.control.specs.declared.Bit.{Bit}
 use Rattle.control.specs.declared.Bit.the-variants.{Mark, Space, Doubtful}
@@ -27,9 +27,19 @@ isDoubtful space mark = ltZ (pos 4 *ℤ larger space mark) (pos 5 *ℤ smaller s
 unfoldable pub weighed : ℤ → ℤ → Bit
 weighed space mark = cond (isDoubtful space mark) Doubtful (cond (ltZ mark space) Space Mark)
 
--- the level is good if the larger energy is at least `level`; space is above mark; the bit
+-- the difference of the two energies, larger minus smaller; 0 if a number is below 0, which no energy is
+unfoldable pub apart : ℤ → ℤ → ℤ
+apart space mark = cond (ltZ (smaller space mark) (pos 0)) (pos 0) (larger space mark -ℤ smaller space mark)
+
+-- the level is good if the larger energy is at least `level`; space is above mark; the bit; the difference
 abbrev pub decided : ℤ → ℤ → Decision
-decided space mark = record { good = leZ (pos level) (larger space mark); space = ltZ mark space; bit = weighed space mark }
+decided space mark =
+    record {
+      good = leZ (pos level) (larger space mark);
+      space = ltZ mark space;
+      bit = weighed space mark;
+      difference = apart space mark;
+    }
 
 -- what each bit says of two energies, which are natural numbers (proofs/Laws: `weighed-means`)
 abbrev pub Means : Bit → (space mark : ℕ) → Type 0

@@ -1,10 +1,11 @@
-// The energies of space and mark in a window are weighed: is the level good, is space above mark, and which bit is it, or is that doubtful.
+// The energies of space and mark in a window are weighed: is the level good, is space above mark, which bit is it, or is that doubtful, and how
+// far apart are they.
 // Every function takes every value of its types.
 ghost use mathlib.Core.Path.{_≡_};
 ghost use mathlib.Core.Bool.{true, false, cond};
 ghost use Prim.Native.Nat.{_*_, _≤_};
 ghost use lib.Dec.{ltb};
-ghost use lib.IntN.{natAbs, pos, _*ℤ_};
+ghost use lib.IntN.{natAbs, pos, _-ℤ_, _*ℤ_};
 ghost use lib.Signed.{ltZ, leZ};
 ghost use Rattle.control.specs.declared.Bit.the-variants.{Mark, Space, Doubtful};
 ghost use Rattle.weighing.specs.Weighing.{larger, smaller, decided};
@@ -17,12 +18,13 @@ pub fn weigh(space: i64, mark: i64) -> Decision
 {
     let most = larger(space, mark);
     let above = mark < space;
-    let close = are_close(most, smaller(space, mark));
-    let bit = bit_of(close, above);
+    let least = smaller(space, mark);
+    let bit = bit_of(are_close(most, least), above);
     Decision {
         good: 32_400_000_000_000_000 <= most,
         space: above,
         bit,
+        difference: apart(most, least),
     }
 }
 
@@ -48,6 +50,14 @@ fn bit_of(doubtful: bool, space: bool) -> Bit
     } else {
         Bit::Mark
     }
+}
+
+// The larger number less the smaller one; 0 if that is below 0, which no energy is.
+fn apart(most: i64, least: i64) -> i64
+    requires { ⌜ leZ least most ≡ true ⌝ }
+    ensures { λ r. ⌜ r ≡ cond (ltZ least (pos 0)) (pos 0) (most -ℤ least) ⌝ }
+{
+    if least < 0 { 0 } else { most - least }
 }
 
 // Four times the larger number is less than five times the smaller one, which then is above 0.

@@ -37,6 +37,8 @@ pub struct Sent {
 
 /// `modem_receiver`, the state of a receiver. Handed in, stage 0 is searching and
 /// 2 a held break, whatever the three numbers behind it are, and 1 is waiting.
+/// Measured is 1 if there is a smallest difference, and at 0 there is none, whatever
+/// the number behind it is.
 #[repr(C)]
 #[derive(Clone, Copy, Debug, PartialEq, Eq)]
 pub struct Numbers {
@@ -47,6 +49,8 @@ pub struct Numbers {
     pub wait: u8,
     pub slot: u8,
     pub byte: u8,
+    pub measured: u8,
+    pub smallest: i64,
 }
 
 /// `modem_receiver_opened`.
@@ -130,6 +134,21 @@ fn stage_of(numbers: [u8; 4]) -> Stage {
     }
 }
 
+/// Measured and smallest.
+fn smallest_numbers(smallest: Option<i64>) -> (u8, i64) {
+    smallest.map_or((0, 0), |difference| (1, difference))
+}
+
+/// The difference that these are taken for: one that no state may have if the first is
+/// out of its range.
+fn smallest_of(measured: u8, smallest: i64) -> Option<i64> {
+    match measured {
+        0 => None,
+        1 => Some(smallest),
+        _ => Some(-1),
+    }
+}
+
 impl Numbers {
     /// Stage, wait, slot and byte.
     pub fn stage_numbers(&self) -> [u8; 4] {
@@ -146,11 +165,22 @@ impl Numbers {
             ..self
         }
     }
+
+    /// The same with this smallest difference, or with none.
+    pub fn with_smallest(self, smallest: Option<i64>) -> Numbers {
+        let (measured, smallest) = smallest_numbers(smallest);
+        Numbers {
+            measured,
+            smallest,
+            ..self
+        }
+    }
 }
 
 impl From<receiver::State> for Numbers {
     fn from(state: receiver::State) -> Numbers {
         let [stage, wait, slot, byte] = stage_numbers(state.stage);
+        let (measured, smallest) = smallest_numbers(state.smallest);
         Numbers {
             band: state.band,
             window: state.window,
@@ -159,6 +189,8 @@ impl From<receiver::State> for Numbers {
             wait,
             slot,
             byte,
+            measured,
+            smallest,
         }
     }
 }
@@ -170,6 +202,7 @@ impl From<Numbers> for receiver::State {
             window: numbers.window,
             run: numbers.run,
             stage: stage_of(numbers.stage_numbers()),
+            smallest: smallest_of(numbers.measured, numbers.smallest),
         }
     }
 }

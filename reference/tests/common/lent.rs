@@ -52,6 +52,11 @@ pub fn no_event(place: usize) -> u16 {
     u16::try_from(16_384 + place % 49_000).expect("at most 65383")
 }
 
+/// Differs from place to place and is never a difference, which is not below 0.
+pub fn no_difference(place: usize) -> i64 {
+    -1 - i64::try_from(place).expect("a short list")
+}
+
 /// Differs from place to place and is no byte of a sheet.
 pub fn no_text(place: usize) -> u8 {
     128 + u8::try_from(place % 128).expect("below 128")

@@ -1,6 +1,7 @@
 //! A message sent, disturbed and read back by the library.
 
-use super::lent::{no_event, no_sample, Lent};
+use super::lent::{no_difference, no_event, no_sample, Lent};
+use super::receiver::Event;
 use reference::library::{self, CallAnswer};
 
 pub struct Call<'a> {
@@ -8,6 +9,14 @@ pub struct Call<'a> {
     pub message: &'a [u8],
     pub added: &'a [i16],
     pub block: usize,
+}
+
+/// What a call answered and left at the front of its lists.
+pub struct Looped {
+    pub answer: CallAnswer,
+    pub samples: Vec<i16>,
+    /// With their differences.
+    pub events: Vec<Event>,
 }
 
 impl Call<'_> {
@@ -22,11 +31,12 @@ impl Call<'_> {
         format!("band {band}, {count} bytes, {numbers} numbers, blocks of {block}")
     }
 
-    /// Makes the call with so many places for samples and for events. None may
-    /// have changed but those of an accepted call at the front.
-    pub fn make(&self, places: [usize; 2]) -> (CallAnswer, Vec<i16>, Vec<u16>) {
+    /// Makes the call with so many places for samples, for events and for differences.
+    /// None may have changed but those of an accepted call at the front.
+    pub fn make(&self, places: [usize; 3]) -> Looped {
         let mut samples = Lent::new(places[0], no_sample);
         let mut events = Lent::new(places[1], no_event);
+        let mut differences = Lent::new(places[2], no_difference);
         let answer = library::loopback(
             self.band,
             self.message,
@@ -34,6 +44,7 @@ impl Call<'_> {
             self.block,
             samples.places(),
             events.places(),
+            differences.places(),
         );
         let written = if answer.number == 0 {
             192 + 320 * self.message.len()
@@ -43,8 +54,13 @@ impl Call<'_> {
         let what = || format!("{} into {places:?}: {answer:?}", self.told());
         let mut samples = samples.returned(written, what);
         samples.truncate(written);
-        let mut events = events.returned(answer.count, what);
-        events.truncate(answer.count);
-        (answer, samples, events)
+        let events = events.returned(answer.count, what);
+        let differences = differences.returned(answer.count, what);
+        let events = events.into_iter().zip(differences);
+        Looped {
+            answer,
+            samples,
+            events: events.take(answer.count).collect(),
+        }
     }
 }

@@ -6,7 +6,8 @@
 //! that any call is lent. `process` runs the programs, and `faults` lets their reads
 //! and writes go wrong. `sheets` and `forms` have sheets and almost sheets, `lengths`
 //! how long they are, and `disturbances` what a line may add. `weighed` has windows with
-//! their energies, and `doubtful` those at the edge of doubt. `c` compiles C.
+//! their energies, and `doubtful` those at the edge of doubt. `plain` reads without
+//! differences, and works them out from what it has read. `c` compiles C.
 //! `declared` reads what the files of a crate say, and `made` compares a file with
 //! what a program makes.
 
@@ -22,6 +23,7 @@ pub mod lent;
 pub mod loopback;
 pub mod made;
 pub mod met;
+pub mod plain;
 pub mod process;
 pub mod receiver;
 pub mod recording;

@@ -114,13 +114,23 @@ pub fn refused_blocks<S: BlockState>() -> [(Vec<i16>, usize, u8); 3] {
     ]
 }
 
-/// A stage with other numbers than 0 behind it, which it does not have, is handed
-/// back by a refusal as it is, and brought into its one form by an accepted call.
-/// `with` gives the state that has the stage.
+/// A stage with other numbers than 0 behind it, which it does not have, and with another
+/// number than 0 for no difference, is handed back by a refusal as it is, and brought
+/// into its one form by an accepted call. `with` gives the state that has the stage.
 pub fn other_forms<S: BlockState>(stage: u8, with: impl Fn(Numbers) -> S) {
-    for rest in [[1, 2, 3], [255, 255, 255], [0, 0, 1], [0, 9, 0], [16, 0, 0]] {
+    for (rest, smallest) in [
+        ([1, 2, 3], 0),
+        ([255, 255, 255], -1),
+        ([0, 0, 1], i64::MAX),
+        ([0, 9, 0], i64::MIN),
+        ([16, 0, 0], 1),
+        ([0, 0, 0], 1),
+    ] {
         let [wait, slot, byte] = rest;
-        let odd = with_stage([stage, wait, slot, byte]);
+        let odd = Numbers {
+            smallest,
+            ..with_stage([stage, wait, slot, byte])
+        };
         let (state, one_form) = (with(odd), with(with_stage([stage, 0, 0, 0])));
         let empty = compare(state, &[], S::places_needed(0)).answer;
         assert_eq!((empty.number, empty.state), (0, one_form), "{rest:?}");

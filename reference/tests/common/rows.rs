@@ -2,39 +2,41 @@
 //! a tap.
 
 use super::receiver::{
-    accepted, assert_events, compare, compare_through, fresh, read_by, read_on, BlockState, ENTRIES,
+    accepted, assert_events, compare, compare_through, fresh, measured_by, measured_on, numbers,
+    read_by, uneven, BlockState, ENTRIES,
 };
 use super::recording::random_blocks;
 use super::refused::{refused, too_long};
 use reference::library::Numbers;
 use reference::random::Random;
 
-/// The events and the last state are the same in blocks of each of these sizes.
+/// The events, their differences and the last state are the same in blocks of each of
+/// these sizes. Returns the numbers of the events.
 pub fn cut_alike<S: BlockState>(
     state: S,
     samples: &[i16],
     sizes: impl IntoIterator<Item = usize>,
 ) -> Vec<u16> {
-    let (expected, last) = read_on(state, samples.chunks(16_384));
+    let (expected, last) = measured_on(state, samples.chunks(16_384));
     for size in sizes {
-        let (events, state) = read_on(state, samples.chunks(size));
+        let (events, state) = measured_on(state, samples.chunks(size));
         let what = || format!("blocks of {size}");
         assert_events(&events, &expected, what);
         assert_eq!(state, last, "{}", what());
     }
-    expected
+    numbers(&expected)
 }
 
 /// The same when the samples are cut once, at every place.
 pub fn cut_everywhere<S: BlockState>(state: S, samples: &[i16]) -> Vec<u16> {
-    let (expected, last) = read_on(state, [samples]);
+    let (expected, last) = measured_on(state, [samples]);
     for cut in 0..=samples.len() {
         let (head, tail) = samples.split_at(cut);
-        let (events, state) = read_on(state, [head, tail]);
+        let (events, state) = measured_on(state, [head, tail]);
         assert_events(&events, &expected, || format!("cut at {cut}"));
         assert_eq!(state, last, "cut at {cut}");
     }
-    expected
+    numbers(&expected)
 }
 
 /// The same with refused calls before each block and behind the last.
@@ -45,9 +47,9 @@ pub fn refused_between<S: BlockState>(
     sizes: impl IntoIterator<Item = usize>,
 ) -> Vec<u16> {
     let too_long = too_long(random);
-    let (expected, last) = read_on(state, samples.chunks(16_384));
+    let (expected, last) = measured_on(state, samples.chunks(16_384));
     for size in sizes {
-        let (events, state) = read_by(state, samples.chunks(size), |state, block| {
+        let (events, state) = measured_by(state, samples.chunks(size), |state, block| {
             refused(random, state, block, &too_long);
             let places = S::places_needed(block.len()) + random.below(3);
             compare(state, block, places)
@@ -57,7 +59,7 @@ pub fn refused_between<S: BlockState>(
         assert_events(&events, &expected, what);
         assert_eq!(state, last, "{}", what());
     }
-    expected
+    numbers(&expected)
 }
 
 /// Reads the samples in random blocks, each by the one entry or the other, with
@@ -76,7 +78,8 @@ pub fn read_in_turn(
         }
         let entry = ENTRIES[random.below(2)];
         let places = samples.len() / 48 + 1 + random.below(3);
-        let [reading] = compare_through([entry], state, samples, places);
+        let lengths = uneven(samples, places);
+        let [reading] = compare_through([entry], state, samples, lengths);
         accepted(reading)
     })
 }

@@ -9,9 +9,28 @@ use reference::random::Random;
 /// The numbers of a held break.
 pub const HELD: [u8; 4] = [2, 0, 0, 0];
 
+/// A difference such as characters have.
+pub const SOME_DIFFERENCE: i64 = 234_567_890_123_456_789;
+
+/// Whether a receiver in this stage has a smallest difference: it waits for one of the
+/// slots 2 to 9.
+pub fn is_measured([stage, _, slot, _]: [u8; 4]) -> bool {
+    stage == 1 && (2..=9).contains(&slot)
+}
+
 /// The ranges of the specification. Of a search and of a held break nothing else
-/// is looked at.
+/// is looked at, nor where there is no difference at the number of one.
 pub fn is_good(state: &Numbers) -> bool {
+    let difference = match state.measured {
+        0 => !is_measured(state.stage_numbers()),
+        1 => is_measured(state.stage_numbers()) && state.smallest >= 0,
+        _ => false,
+    };
+    difference && is_good_without(state)
+}
+
+/// The ranges of all but the difference.
+pub fn is_good_without(state: &Numbers) -> bool {
     let [stage, wait, slot, byte] = state.stage_numbers().map(u32::from);
     let stage = match slot {
         _ if stage == 0 || stage == 2 => true,
@@ -147,8 +166,29 @@ pub fn block_of(
     samples
 }
 
+/// Any difference that a state can have: mostly such as characters have, and the ends of
+/// its range.
+pub fn any_difference(random: &mut Random) -> i64 {
+    match random.below(8) {
+        0 => [0, 1, i64::MAX - 1, i64::MAX][random.below(4)],
+        1 => (random.number() >> 1) as i64,
+        _ => (random.number() % 400_000_000_000_000_000) as i64,
+    }
+}
+
+/// Any number that is no difference.
+fn below_0(random: &mut Random) -> i64 {
+    [-1, i64::MIN, -1 - any_difference(random)][random.below(3)]
+}
+
+/// The state with such a difference as its stage must have, or none.
+fn measured(random: &mut Random, state: Numbers) -> Numbers {
+    let due = is_measured(state.stage_numbers());
+    state.with_smallest(due.then(|| any_difference(random)))
+}
+
 /// Any state in range of the band, mostly waiting; a search or a held break may have
-/// any numbers behind it.
+/// any numbers behind it, and so may the number of no difference.
 pub fn good_state_of(random: &mut Random, band: u8) -> Numbers {
     let window = any_samples(random, band, WINDOW);
     let run = match random.below(3) {
@@ -176,6 +216,10 @@ pub fn good_state_of(random: &mut Random, band: u8) -> Numbers {
         ..fresh
     }
     .with_stage(stage);
+    let mut state = measured(random, state);
+    if state.measured == 0 && random.below(2) == 0 {
+        state.smallest = [any_difference, below_0][random.below(2)](random);
+    }
     assert!(is_good(&state), "{state:?}");
     state
 }
@@ -194,7 +238,7 @@ pub fn hostile_state(random: &mut Random) -> Numbers {
 
 /// The state, which is in range, with one field put out of it.
 pub fn hostile(random: &mut Random, mut state: Numbers) -> Numbers {
-    match random.below(7) {
+    match random.below(10) {
         0 => state.band = [0, NO_BAND, NO_BAND + 1, 128, 255][random.below(5)],
         1 => state.run = 33 + random.below(256 - 33) as u8,
         2 => {
@@ -202,7 +246,21 @@ pub fn hostile(random: &mut Random, mut state: Numbers) -> Numbers {
             state.window[random.below(WINDOW)] = bad[random.below(bad.len())];
         }
         3 => state.stage = 3 + random.below(256 - 3) as u8,
-        _ => state = state.with_stage(hostile_wait(random)),
+        4 => state.measured = [2, 255, 2 + random.below(254) as u8][random.below(3)],
+        // A difference is missing, or there is one too many.
+        5 => {
+            state.measured = 1 - state.measured;
+            state.smallest = any_difference(random);
+        }
+        6 => {
+            let slot = 2 + random.below(8) as u8;
+            let smallest = Some(below_0(random));
+            state = state.with_stage([1, 1, slot, 0]).with_smallest(smallest);
+        }
+        _ => {
+            state = state.with_stage(hostile_wait(random));
+            state = measured(random, state);
+        }
     }
     assert!(!is_good(&state), "{state:?}");
     state
@@ -226,7 +284,8 @@ fn hostile_wait(random: &mut Random) -> [u8; 4] {
     }
 }
 
-/// A fresh state of band 1 with another stage.
+/// A fresh state of band 1 with another stage, and some difference if it must have one.
 pub fn with_stage(stage: [u8; 4]) -> Numbers {
-    FRESH.with_stage(stage)
+    let smallest = is_measured(stage).then_some(SOME_DIFFERENCE);
+    FRESH.with_stage(stage).with_smallest(smallest)
 }

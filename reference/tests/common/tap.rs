@@ -1,7 +1,9 @@
 //! A tap's calls made on either side, and compared.
 
 use super::met::{kinds, Kinds};
-use super::receiver::{assert_same, fresh, guarded, in_numbers, told, BlockState, Reading};
+use super::receiver::{
+    assert_same, fresh, guarded, in_numbers, told, BlockState, Event, Lengths, Reading,
+};
 use super::recording::mixed;
 use super::states::{any_samples, good_state_of};
 use super::{Side, SIDES};
@@ -70,32 +72,44 @@ pub fn of_band(band: u8, events: &[u16]) -> Vec<u16> {
     own.map(|&event| event % 1_000).collect()
 }
 
+/// The same with their differences.
+pub fn measured_of_band(band: u8, events: &[Event]) -> Vec<Event> {
+    let own = events
+        .iter()
+        .filter(|(event, _)| event / 1_000 == u16::from(band));
+    own.map(|&(event, difference)| (event % 1_000, difference))
+        .collect()
+}
+
 /// How many events of each kind either band has.
 pub fn kinds_of(pair: [u8; 2], events: &[u16]) -> [Kinds; 2] {
     pair.map(|band| kinds(&of_band(band, events)))
 }
 
-/// Makes the call with `length` lent places, and checks what holds of every call.
-fn block(side: Side, tap: Tap, samples: &[i16], length: usize) -> Reading<Tap> {
-    let call = |samples: &[i16], events: &mut [u16]| match side {
-        Side::Reference => in_numbers(tap::block, tap, samples, events),
-        Side::Library => library::tap_block(tap, samples, events),
+/// Makes the call with lists of these lengths, and checks what holds of every call.
+fn block(side: Side, tap: Tap, samples: &[i16], lengths: Lengths) -> Reading<Tap> {
+    let call = |samples: &[i16], events: &mut [u16], differences: &mut [i64]| match side {
+        Side::Reference => in_numbers(tap::block, tap, samples, events, differences),
+        Side::Library => library::tap_block(tap, samples, events, differences),
     };
-    guarded(call, tap, samples, length, || format!("{side:?}"))
+    guarded(call, tap, samples, lengths, || format!("{side:?}"))
 }
 
-/// Taken apart, the events and the next state of an accepted call are those that
-/// the library's receivers give by themselves, and there are no others.
+/// Taken apart, the events with their differences and the next state of an accepted
+/// call are those that the library's receivers give by themselves, and there are no
+/// others.
 fn assert_apart(tap: Tap, samples: &[i16], reading: &Reading<Tap>) {
-    let (all, next) = (reading.events(), reading.answer.state);
+    let (all, next) = (reading.measured(), reading.answer.state);
     let mut count = 0;
     for (handed, next) in [(tap.first, next.first), (tap.second, next.second)] {
         let what = || format!("{} alone of {tap:?}, {}", handed.band, samples.len());
-        let mut events = vec![0; samples.len() / 48 + 1];
-        let alone = library::receiver_block(handed, samples, &mut events);
+        let places = samples.len() / 48 + 1;
+        let (mut events, mut differences) = (vec![0; places], vec![0; places]);
+        let alone = library::receiver_block(handed, samples, &mut events, &mut differences);
         assert_eq!((alone.number, alone.state), (0, next), "{}", what());
-        let own = of_band(handed.band, all);
-        assert_eq!(own, events[..alone.count], "{}", what());
+        let events = events.into_iter().zip(differences).take(alone.count);
+        let own = measured_of_band(handed.band, &all);
+        assert_eq!(own, events.collect::<Vec<_>>(), "{}", what());
         count += alone.count;
     }
     assert_eq!(all.len(), count, "{all:?}");
@@ -106,9 +120,9 @@ impl BlockState for Tap {
         2 * (samples / 48 + 1)
     }
 
-    fn compare(self, samples: &[i16], length: usize) -> Reading<Tap> {
-        let [expected, found] = SIDES.map(|side| block(side, self, samples, length));
-        assert_same(&found, &expected, || told(self, samples, length));
+    fn compare_lists(self, samples: &[i16], lengths: Lengths) -> Reading<Tap> {
+        let [expected, found] = SIDES.map(|side| block(side, self, samples, lengths));
+        assert_same(&found, &expected, || told(self, samples, lengths));
         if found.answer.number == 0 {
             assert_apart(self, samples, &found);
         }

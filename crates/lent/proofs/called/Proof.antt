@@ -10,8 +10,11 @@ block-requires c κs = tt
 same-length : tie.Need-same-length
 same-length c = search needs
 
+same-length-2 : tie.Need-same-length-2
+same-length-2 c = search needs
+
 returns : tie.Need-returns
-returns c = c .before .before .before .before .block .ensures
+returns c = c .before .before .before .before .before .block .ensures
 
 pub called-spec : {M : Type 1} → statement M
-called-spec = tie.close (tie.spec block-requires same-length returns)
+called-spec = tie.close (tie.spec block-requires same-length same-length-2 returns)

@@ -26,11 +26,22 @@ both c =
     (λ w. rw (w .1, lt-leb (samplesFor (a .characters)) (a .disturbance) (w .0 .left)))
     (c .if1 .came)
 
+-- the first three
+three : (c : tie.Joined2)
+    → c .if2 .if3 ≡ (leb (samplesFor (c .before .before .args .characters)) (c .before .before .args .disturbance)
+    && leb (samplesFor (c .before .before .args .characters)) (c .before .before .args .samples)
+    && leb (c .before .before .args .characters) (c .before .before .args .events))
+three c =
+    ⊎-elim
+    (λ w. rw (w .1, ← both (c .before), w .0 .taken))
+    (λ w. rw (w .1, ← both (c .before), w .0 .left))
+    (c .if2 .came)
+
 returns : tie.Need-returns
-returns c = rw (sym (both (c .before)) ∙ c .if2 .taken)
+returns c = rw (sym (three (c .before)) ∙ c .if3 .taken)
 
 returns-2 : tie.Need-returns-2
-returns-2 c = rw (sym (both (c .before)), c .if2 .left)
+returns-2 c = rw (sym (three (c .before)), c .if3 .left)
 
 pub is-room-spec : {M : Type 1} → statement M
 is-room-spec = tie.close (tie.spec mul-n add-n returns returns-2)

@@ -2,12 +2,12 @@
 -- Assumes nothing.
 use mathlib.Core.Path.{_≡_, sym, ap, ap₂, _∙_}
 use mathlib.Core.Bool.{true}
-use mathlib.Core.List.{List, _++_}
+use mathlib.Core.List.{List, _++_, map}
 use Prim.Native.Nat.{ℕ, _-_}
 use native.Mathlib.Omega.{arith}
 use borrow.Author.Needs.{needs}
 use lib.IntN.{ℤ}
-use lib.ListN.{length, take, drop, length-append}
+use lib.ListN.{length, take, drop, length-append, length-map}
 use lib.Seq.{sets, take-at, drop-at}
 use Rattle.integers.specs.Near.{altered}
 use Rattle.integers.specs.Sums.{Bounded}
@@ -21,14 +21,16 @@ use Rattle.tones.specs.Samples.{areSamples}
 use Rattle.tones.proofs.Samples.{between-bound}
 use Rattle.transmitter.specs.Samples.{bitSteps, messageBits}
 use Rattle.transmitter.proofs.Laws.{send-bound}
-use Rattle.receiver.specs.Step.{eventsAfter}
+use Rattle.receiver.specs.Step.{measuredAfter}
 use Rattle.receiver.specs.Calls.{fresh}
+use Rattle.receiver.specs.AsCoded.{numbersOf}
+use Rattle.receiver.proofs.Counting.{measured-numbers}
 use Rattle.message.specs.Message.{messageOf}
 use Rattle.message.proofs.Calls.{length-samples, send-0}
 use Rattle.margin.specs.Windows.{disturbance}
 use Rattle.promise.specs.Recordings.{AreBytes}
 use Rattle.promise.proofs.Message.{are-bytes, message-range, message-read}
-use Rattle.loopback.specs.Loopback.{lists, recordedOf, loopbackTests}
+use Rattle.loopback.specs.Loopback.{lists, recordedOf, differencesOf, loopbackTests}
 use Rattle.loopback.proofs.Refusals.{Allowed, allowed, loopback-refused, loopback-accepted}
 use Rattle.loopback.proofs.loopback.Statement.{statement}
 use Rattle.loopback.proofs.loopback.Tie as tie
@@ -57,11 +59,11 @@ module _ (c : tie.Else1) where
   abbrev recorded : List ℤ
   recorded = recordedOf band cs ds
 
-  none : firstOf (loopbackTests band (length cs) ds (start .args .size) (length samples) (length (start .args .events .now))) ≡ 0
+  none : firstOf (loopbackTests band (length cs) ds (start .args .size) (length samples) (length (start .args .events .now)) (length (start .args .differences .now))) ≡ 0
   none = sym (c .before .refusal .ensures) ∙ c .if1 .left
 
-  all-allowed : Allowed band (length cs) ds (start .args .size) (length samples) (length (start .args .events .now))
-  all-allowed = allowed _ _ _ _ _ _ none
+  all-allowed : Allowed band (length cs) ds (start .args .size) (length samples) (length (start .args .events .now)) (length (start .args .differences .now))
+  all-allowed = allowed _ _ _ _ _ _ _ none
 
   bytes : AreBytes cs
   bytes = are-bytes cs (λ i. omega (arith, c .before .before .before .shared-slice-known .given i))
@@ -73,8 +75,11 @@ module _ (c : tie.Else1) where
   range = message-range band (all-allowed .known) cs bytes (all-allowed .sizes .few) ds small
 
   -- the promise
-  promised : eventsAfter (fresh band) recorded ≡ cs
-  promised = message-read band (all-allowed .known) cs bytes (all-allowed .sizes .few) ds small
+  promised : numbersOf (measuredAfter (fresh band) recorded) ≡ cs
+  promised = measured-numbers (fresh band) recorded ∙ message-read band (all-allowed .known) cs bytes (all-allowed .sizes .few) ds small
+
+  many : length (measuredAfter (fresh band) recorded) ≡ length cs
+  many = sym (length-map (measuredAfter (fresh band) recorded) (λ (e : ℕ × ℤ). e .0)) ∙ ap length promised
 
 -- ---- the message is at the buffer's front
 
@@ -132,7 +137,7 @@ refusal-requires c κs = tt
 returns : tie.Need-returns
 returns c =
     let a = c .before .before .before .before .args in
-    loopback-refused (a .band) (a .characters .now) (a .disturbance .now) (a .size) (lists (a .samples .now) (a .events .now))
+    loopback-refused (a .band) (a .characters .now) (a .disturbance .now) (a .size) (lists (a .samples .now) (a .events .now) (a .differences .now))
     (c .before .refusal .result) (c .before .refusal .ensures) (c .if1 .taken)
 
 send-requires : tie.Need-send-requires
@@ -165,10 +170,10 @@ slice-aggregate-receive c = let d = c .before .before in sym (ap length (read-pa
 
 receive-requires : tie.Need-receive-requires
 receive-requires c κs =
-    let d = c .before .before .before in
+    let d = c .before .before .before .before in
     let e = taken d in
     let a = all-allowed e in
-    rw (read-part d, promised e) (a .known, (range e, ((a .sizes .low, a .sizes .high), a .room .free)))
+    rw (read-part d, many e) (a .known, (range e, ((a .sizes .low, a .sizes .high), (a .room .free, a .room .beside))))
 
 same-length : tie.Need-same-length
 same-length c = search needs
@@ -176,17 +181,27 @@ same-length c = search needs
 same-length-2 : tie.Need-same-length-2
 same-length-2 c = search needs
 
+same-length-3 : tie.Need-same-length-3
+same-length-3 c = search needs
+
 returns-2 : tie.Need-returns-2
 returns-2 c =
-    let d = c .before .before .before .before .before .before in
+    let d = c .before .before .before .before .before .before .before .before in
     let e = taken d in
     let a = start e .args in
-    let p = c .before .before .receive .ensures in
-    let read = ap (eventsAfter (fresh (a .band))) (read-part d) ∙ promised e in
-    let events = p .1 ∙ ap (sets (a .events .now) 0) read ∙ sets-front (cs e) (a .events .now) (all-allowed e .room .free) in
-    let count = p .0 ∙ ap length read in
-    (λ i. record { number = 0; count = count i; state = tt; lent = lists (filled d i) (events i) })
-    ∙ loopback-accepted (a .band) (a .characters .now) (a .disturbance .now) (a .size) (lists (a .samples .now) (a .events .now))
+    let p = c .before .before .before .receive .ensures in
+    let told = measuredAfter (fresh (a .band)) (recorded e) in
+    let read = ap (measuredAfter (fresh (a .band))) (read-part d) in
+    let count = p .0 ∙ ap length read ∙ many e in
+    let events =
+    p .1 .0 ∙ ap (λ (l : List (ℕ × ℤ)). sets (a .events .now) 0 (numbersOf l)) read
+    ∙ ap (sets (a .events .now) 0) (promised e) ∙ sets-front (cs e) (a .events .now) (all-allowed e .room .free) in
+    let differences =
+    p .1 .1 ∙ ap (λ (l : List (ℕ × ℤ)). sets (a .differences .now) 0 (map (λ (x : ℕ × ℤ). x .1) l)) read
+    ∙ sets-front (differencesOf (a .band) (cs e) (ds e)) (a .differences .now)
+    (omega (arith, length-map told (λ (x : ℕ × ℤ). x .1), many e, all-allowed e .room .beside)) in
+    (λ i. record { number = 0; count = count i; state = tt; lent = lists (filled d i) (events i) (differences i) })
+    ∙ loopback-accepted (a .band) (a .characters .now) (a .disturbance .now) (a .size) (lists (a .samples .now) (a .events .now) (a .differences .now))
     (none e)
 
 pub loopback-spec : {M : Type 1} → statement M
@@ -204,4 +219,5 @@ loopback-spec =
     receive-requires
     same-length
     same-length-2
+    same-length-3
     returns-2)

@@ -13,8 +13,11 @@ same-length c = search needs
 same-length-2 : tie.Need-same-length-2
 same-length-2 c = search needs
 
+same-length-3 : tie.Need-same-length-3
+same-length-3 c = search needs
+
 returns : tie.Need-returns
-returns c = c .before .before .before .loopback .ensures
+returns c = c .before .before .before .before .loopback .ensures
 
 pub modem-loopback-spec : {M : Type 1} → statement M
-modem-loopback-spec = tie.close (tie.spec loopback-requires same-length same-length-2 returns)
+modem-loopback-spec = tie.close (tie.spec loopback-requires same-length same-length-2 same-length-3 returns)

@@ -21,13 +21,17 @@ same-length c = search needs
 same-length-2 : tie.Need-same-length-2
 same-length-2 c = search needs
 
+same-length-3 : tie.Need-same-length-3
+same-length-3 c = search needs
+
 returns : tie.Need-returns
 returns c =
-    let read = c .before .before .before .before .before in
-    let made = read .before .before .before in
+    let read = c .before .before .before .before .before .before in
+    let made = read .before .before .before .before in
     let a = made .before .before .before .args in
-    stored (a .receiver) (λ s. indexedOf s (a .samples .now) (a .events .now, a .indices .now)) (made .receiver-of .ensures) (read .block-indexed .ensures) (c .reading-numbers .ensures)
+    stored (a .receiver) (λ s. indexedOf s (a .samples .now) ((a .events .now, a .differences .now), a .indices .now)) (made .receiver-of .ensures)
+    (read .block-indexed .ensures) (c .reading-numbers .ensures)
 
 pub modem-receiver-block-indexed-spec : {M : Type 1} → statement M
 modem-receiver-block-indexed-spec =
-    tie.close (tie.spec receiver-of-requires block-indexed-requires reading-numbers-requires same-length same-length-2 returns)
+    tie.close (tie.spec receiver-of-requires block-indexed-requires reading-numbers-requires same-length same-length-2 same-length-3 returns)

@@ -22,13 +22,17 @@ reading-numbers-requires c κs = tt
 same-length : tie.Need-same-length
 same-length c = search needs
 
+same-length-2 : tie.Need-same-length-2
+same-length-2 c = search needs
+
 returns : tie.Need-returns
 returns c =
-    let read = c .before .before .before in
-    let made = read .before .before in
+    let read = c .before .before .before .before in
+    let made = read .before .before .before in
     let a = made .before .before .args in
-    ap (λ (b : TapBlock). outcome (answerOf (b .number) (b .count)) (b .tap) (read .block .last .1 .1 .0)) (c .reading-numbers .ensures)
-    ∙ ap (outcomeNumbers (a .tap)) (read .block .ensures ∙ ap (λ (t : Tap). blockOf t (a .samples .now) (a .events .now)) (made .tap-of .ensures))
+    ap (λ (b : TapBlock). outcome (answerOf (b .number) (b .count)) (b .tap) (read .block .last .1 .1 .0, read .block .last .1 .1 .1 .0)) (c .reading-numbers .ensures)
+    ∙ ap (outcomeNumbers (a .tap))
+    (read .block .ensures ∙ ap (λ (t : Tap). blockOf t (a .samples .now) (a .events .now, a .differences .now)) (made .tap-of .ensures))
 
 pub modem-tap-block-spec : {M : Type 1} → statement M
-modem-tap-block-spec = tie.close (tie.spec tap-of-requires block-requires reading-numbers-requires same-length returns)
+modem-tap-block-spec = tie.close (tie.spec tap-of-requires block-requires reading-numbers-requires same-length same-length-2 returns)

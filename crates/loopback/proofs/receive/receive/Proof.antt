@@ -16,10 +16,11 @@ use Rattle.loopback.proofs.receive.receive.Statement.{statement}
 use Rattle.loopback.proofs.receive.receive.Tie as tie
 
 abbrev Inv-loop : tie.InvT-loop
-Inv-loop band samples size events₀ r₀ at₀ count₀ events r at count = InBlocks (fresh band) samples events₀ r at count events
+Inv-loop band samples size events₀ differences₀ r₀ at₀ count₀ events differences r at count =
+    InBlocks (fresh band) samples (events₀, differences₀) r at count (events, differences)
 
 abbrev μ-loop : tie.MeasureT-loop
-μ-loop band samples size events₀ r₀ at₀ count₀ events r at count = length samples - at
+μ-loop band samples size events₀ differences₀ r₀ at₀ count₀ events differences r at count = length samples - at
 
 -- ---- the block of a turn
 
@@ -51,7 +52,7 @@ loop-holds : tie.Need-loop-holds Inv-loop μ-loop
 loop-holds c =
     let a = c .before .before .before .args in
     rw (ap (λ (o : Opened). o .receiver) (c .before .«open» .ensures) ∙ open-band (a .band) (c .before .before .before .pre .0))
-    (reading-start (fresh (a .band)) (a .samples .now) (a .events .now) (fresh-kept (a .band) (c .before .before .before .pre .0)))
+    (reading-start (fresh (a .band)) (a .samples .now) (a .events .now, a .differences .now) (fresh-kept (a .band) (c .before .before .before .pre .0)))
 
 block-end-requires : tie.Need-block-end-requires Inv-loop μ-loop
 block-end-requires c κs = c .before .loop .inv .inside
@@ -70,10 +71,9 @@ part-read-end c = ends c
 
 read-requires : tie.Need-read-requires Inv-loop μ-loop
 read-requires c κs =
-    let b = c .before .before in
-    let l = c .before .before .before .before .loop in
-    let start = c .before .before .before .before .before .before .before .before in
-    let a = start .args in (
+    let b = c .before .before .before in
+    let l = b .before .before .loop in
+    let start = b .before .before .before .before .before .before in (
       l .inv .kept,
       (
         (short b, block-samples _ _ _ _ _ _ _ (l .inv) (end b) (omega (arith, begins b)) (ends b) (start .pre .1 .0)),
@@ -82,18 +82,24 @@ read-requires c κs =
     )
 
 loop-less : tie.Need-loop-less Inv-loop μ-loop
-loop-less c = omega (arith, begins (c .before .before .before .before .before .before .before), ends (c .before .before .before .before .before .before .before))
+loop-less c =
+    let b = c .before .before .before .before .before .before .before .before .before in
+    omega (arith, begins b, ends b)
 
 loop-again : tie.Need-loop-again Inv-loop μ-loop
 loop-again c =
-    let b = c .before .before .before .before .before .before .before in
-    let l = c .before .before .before .before .before .before .before .before .before .loop in
-    rw (c .before .before .before .before .read .ensures .0, c .before .before .before .before .read .ensures .1)
+    let b = c .before .before .before .before .before .before .before .before .before in
+    let l = b .before .before .loop in
+    let p = c .before .before .before .before .before .read .ensures in
+    rw (p .0, p .1 .0, p .1 .1)
     (reading-more _ _ _ _ _ _ _ (l .inv) (end b) (omega (arith, begins b)) (ends b)
-    (c .before .before .before .before .before .before .before .before .before .before .before .before .before .pre .1 .0))
+    (b .before .before .before .before .before .before .pre .1 .0))
 
 same-length : tie.Need-same-length Inv-loop μ-loop
-same-length c = c .before .loop .inv .filled .long
+same-length c = c .before .loop .inv .events .long
+
+same-length-2 : tie.Need-same-length-2 Inv-loop μ-loop
+same-length-2 c = c .before .loop .inv .differences .long
 
 returns : tie.Need-returns Inv-loop μ-loop
 returns c =
@@ -117,4 +123,5 @@ receive-spec =
     loop-less
     loop-again
     same-length
+    same-length-2
     returns)

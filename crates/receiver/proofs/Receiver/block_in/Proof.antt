@@ -22,13 +22,14 @@ returns c =
     let t = c .before in
     let r = t .before in
     let a = r .before .before .before .args in
-    refused-in (a .self) (a .samples .now) (a .places) (a .events .now) (a .indices .now) (c .refused .result) (r .refusal .result) (r .refusal .ensures) (t .if1 .taken) (c .refused .ensures)
+    refused-in (a .self) (a .samples .now) (a .places) (a .events .now, a .differences .now) (a .indices .now) (c .refused .result) (r .refusal .result) (r .refusal .ensures) (t .if1 .taken) (c .refused .ensures)
 
 read-requires : tie.Need-read-requires
 read-requires c κs =
-    let e = c .before .before in
+    let e = c .before .before .before in
     let k = known e in
-    (k .ranged, (k .few, (k .sound, omega (arith, k .room, e .before .before .before .before .pre))))
+    let p = e .before .before .before .before .pre in
+    (k .ranged, (k .few, (k .sound, (omega (arith, k .room, p .0), omega (arith, k .room, p .1)))))
 
 same-length : tie.Need-same-length
 same-length c = search needs
@@ -36,12 +37,15 @@ same-length c = search needs
 same-length-2 : tie.Need-same-length-2
 same-length-2 c = search needs
 
+same-length-3 : tie.Need-same-length-3
+same-length-3 c = search needs
+
 returns-2 : tie.Need-returns-2
 returns-2 c =
-    let r = c .before .before .before .before in
-    let e = r .before .before .before in
+    let r = c .before .before .before .before .before in
+    let e = r .before .before .before .before in
     let a = e .before .before .before .before .args in
-    read-in (a .self) (a .samples .now) (a .places) (a .events .now) (a .indices .now) (known e) (r .read .ensures .0) (r .read .ensures .1)
+    read-in (a .self) (a .samples .now) (a .places) (a .events .now, a .differences .now) (a .indices .now) (known e) (r .read .ensures .0) (r .read .ensures .1)
 
 pub block-in-spec : {M : Type 1} → statement M
-block-in-spec = tie.close (tie.spec refusal-requires refused-requires returns read-requires same-length same-length-2 returns-2)
+block-in-spec = tie.close (tie.spec refusal-requires refused-requires returns read-requires same-length same-length-2 same-length-3 returns-2)

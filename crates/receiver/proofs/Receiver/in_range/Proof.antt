@@ -1,10 +1,11 @@
 -- `receiver::Receiver::in_range` meets its contract.
 -- Assumes nothing.
-use mathlib.Core.Path.{_≡_, sym, _∙_}
+use mathlib.Core.Path.{_≡_, refl, sym, _∙_}
 use mathlib.Core.Bool.{true}
 use borrow.Author.Needs.{needs}
 use borrow.Author.Tests.{not-true, not-false}
 use Rattle.tones.specs.Bands.{isBand}
+use Rattle.tones.specs.Samples.{areSamples}
 use Rattle.receiver.specs.Calls.{inRange}
 use Rattle.receiver.proofs.Receiver.in_range.Statement.{statement}
 use Rattle.receiver.proofs.Receiver.in_range.Tie as tie
@@ -18,12 +19,18 @@ slice-aggregate-are-samples c = search needs
 are-samples-requires : tie.Need-are-samples-requires
 are-samples-requires c κs = tt
 
+is-kept-requires : tie.Need-is-kept-requires
+is-kept-requires c κs = tt
+
 is-control-requires : tie.Need-is-control-requires
 is-control-requires c κs = tt
 
--- past the first test
+-- past the first two tests
 banded : (c : tie.Else1) → isBand (c .before .before .before .args .self .band) ≡ true
 banded c = sym (c .before .is-band .ensures) ∙ not-false (c .before .is-band .result) (c .if1 .left)
+
+sound : (c : tie.Else2) → areSamples (c .before .before .before .before .before .before .args .self .window) ≡ true
+sound c = sym (c .before .are-samples .ensures) ∙ not-false (c .before .are-samples .result) (c .if2 .left)
 
 returns : tie.Need-returns
 unfolding inRange
@@ -36,8 +43,17 @@ returns-2 c = rw (banded (c .before .before .before), sym (c .before .are-sample
 returns-3 : tie.Need-returns-3
 unfolding inRange
 returns-3 c =
-    let s = c .before .before in
-    rw (banded (s .before .before), sym (s .are-samples .ensures) ∙ not-false (s .are-samples .result) (c .before .if2 .left)) (c .is-control .ensures)
+    let k = c .before .before in
+    let s = k .before in
+    rw (banded (s .before .before .before), sound s, sym (c .before .is-control .ensures) ∙ c .if3 .taken) (k .is-kept .ensures)
+
+returns-4 : tie.Need-returns-4
+unfolding inRange
+returns-4 c =
+    let s = c .before .before .before in
+    rw (banded (s .before .before .before), sound s, c .if3 .left, sym (c .before .is-control .ensures) ∙ c .if3 .left) refl
 
 pub in-range-spec : {M : Type 1} → statement M
-in-range-spec = tie.close (tie.spec is-band-requires slice-aggregate-are-samples are-samples-requires is-control-requires returns returns-2 returns-3)
+in-range-spec =
+    tie.close
+    (tie.spec is-band-requires returns slice-aggregate-are-samples are-samples-requires returns-2 is-kept-requires is-control-requires returns-3 returns-4)

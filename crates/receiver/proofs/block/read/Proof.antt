@@ -9,10 +9,10 @@ use Rattle.sine.specs.Wave.{weightsOf}
 use Rattle.tones.specs.declared.Tones.{Tones}
 use Rattle.tones.specs.Bands.{tonesOf}
 use Rattle.control.specs.declared.Decision.{Decision}
-use Rattle.control.specs.Rules.{reports}
+use Rattle.quality.specs.Quality.{measures}
 use Rattle.receiver.specs.declared.Receiver.{Receiver}
-use Rattle.receiver.specs.Step.{controlOf}
-use Rattle.receiver.specs.AsCoded.{reportIndices, reachedBy, decisionsBy}
+use Rattle.receiver.specs.Step.{trackedOf}
+use Rattle.receiver.specs.AsCoded.{numbersOf, differencesOf, indicesBy, reachedBy, decisionsBy}
 use Rattle.receiver.proofs.Ranges.{in-range}
 use Rattle.receiver.proofs.Windows.{decisionsOver}
 use Rattle.receiver.proofs.Blocks.{Accepted, Head, block-source, block-decisions, block-room, block-read, block-indices}
@@ -48,7 +48,7 @@ module _ (w : tie.After-weights) where
   abbrev samples : List ℤ
   samples = start .args .samples .now
 
-  allowed : Accepted state samples (start .args .events .now)
+  allowed : Accepted state samples (start .args .events .now, start .args .differences .now)
   allowed = record { range = start .pre .0; long = search needs; samples = start .pre .1 .1 .0; room = start .pre .1 .1 .1 }
 
   head : Head state samples (w .before .before .before .before .least .result) (w .before .before .joined .result)
@@ -64,7 +64,7 @@ module _ (w : tie.After-weights) where
 
 scan-requires : tie.Need-scan-requires
 scan-requires c κs =
-    let w = c .before .before .before .before in (
+    let w = c .before .before .before .before .before in (
       block-source (allowed w) (head w) (w .weights .result) (weigh w),
       (start w .pre .1 .0, (in-range _ (start w .pre .0) .control, rw (decided w) (block-room (allowed w) (head w)))),
     )
@@ -81,19 +81,23 @@ same-length c = search needs
 same-length-2 : tie.Need-same-length-2
 same-length-2 c = search needs
 
+same-length-3 : tie.Need-same-length-3
+same-length-3 c = search needs
+
 returns : tie.Need-returns
 returns c =
-    let l = c .before in
-    let u = l .before .before .before .before .before .before in
-    let w = u .before .before .before .before .before in
+    let l = c .before .before in
+    let u = l .before .before .before .before .before .before .before in
+    let w = u .before .before .before .before .before .before in
     let s = state w in (
       block-read (allowed w) (head w)
-          _ (u .scan .ensures .0 ∙ ap (reachedBy (controlOf s)) (decided w))
-          _ (u .scan .ensures .1 .0 ∙ ap (λ (ds : List Decision). sets (start w .args .events .now) 0 (reports (controlOf s) ds)) (decided w))
+          _ (u .scan .ensures .0 ∙ ap (reachedBy (trackedOf s)) (decided w))
+          _ (u .scan .ensures .1 .0 ∙ ap (λ (ds : List Decision). sets (start w .args .events .now) 0 (numbersOf (measures (trackedOf s) ds))) (decided w))
+          _ (u .scan .ensures .1 .1 .0 ∙ ap (λ (ds : List Decision). sets (start w .args .differences .now) 0 (differencesOf (measures (trackedOf s) ds))) (decided w))
           (l .last-window .result) (l .last-window .ensures),
       block-indices (allowed w) (head w) (start w .args .indices .now) _
-          (u .scan .ensures .1 .1 ∙ ap (λ (ds : List Decision). sets (start w .args .indices .now) 0 (reportIndices (controlOf s) ds)) (decided w)),
+          (u .scan .ensures .1 .1 .1 ∙ ap (λ (ds : List Decision). sets (start w .args .indices .now) 0 (indicesBy (trackedOf s) ds)) (decided w)),
     )
 
 pub read-spec : {M : Type 1} → statement M
-read-spec = tie.close (tie.spec least-requires joined-requires tones-of-requires weights-requires slice-aggregate-scan slice-aggregate-scan-2 scan-requires slice-aggregate-last-window last-window-requires same-length same-length-2 returns)
+read-spec = tie.close (tie.spec least-requires joined-requires tones-of-requires weights-requires slice-aggregate-scan slice-aggregate-scan-2 scan-requires slice-aggregate-last-window last-window-requires same-length same-length-2 same-length-3 returns)

@@ -4,6 +4,7 @@ use mathlib.Core.Path.{sym, ap, _∙_}
 use borrow.Author.Needs.{needs}
 use Rattle.control.specs.Ranges.{isStage}
 use Rattle.control.proofs.Rules.{asks}
+use Rattle.quality.proofs.Stretches.{no-slot}
 use Rattle.receiver.specs.AsCoded.{decisionsBy}
 use Rattle.receiver.proofs.Onward.{search-onward}
 use Rattle.receiver.proofs.scan.go_on.Statement.{statement}
@@ -39,7 +40,8 @@ returns c =
     let s = k .before in
     rw (c .as-turn .ensures)
     (search-onward (decisionsBy (s .args .weights .now) (s .args .head .now) (s .args .samples .now)) (s .args .place) (s .pre .1 .0 .0)
-    (asks (s .args .stage) _ (sym (g .space .given .1) ∙ k .asks-for .ensures)) (q .seek .result) (q .seek .ensures))
+    (asks (s .args .stage) _ (sym (g .space .given .1) ∙ k .asks-for .ensures))
+    (no-slot (s .args .stage) _ (sym (g .space .given .1) ∙ k .asks-for .ensures)) (s .args .smallest) (q .seek .result) (q .seek .ensures))
 
 returns-2 : tie.Need-returns-2
 returns-2 c =

@@ -2,16 +2,22 @@
 -- Assumes nothing.
 use mathlib.Core.Path.{_≡_, sym, ap, _∙_}
 use mathlib.Core.List.{List}
-use Prim.Native.Nat.{ℕ, _+_, _-_, _<_, _≤_}
+use Prim.Native.Nat.{ℕ, _+_, _-_, _^_, _<_, _≤_}
 use native.Mathlib.Omega.{arith}
-use borrow.Author.Needs.{needs}
+use borrow.Author.Needs.{needs, sfits-of}
 use borrow.Author.Tests.{not-true, not-false}
+use lib.IntN.{ℤ}
 use lib.ListN.{length}
+use lib.Signed.{mag}
+use mir.Facts.{toZ-ofZ}
+use mir.Syntax.{w64}
+use mir.Val.{toZ, ofZ, hbits}
 use Rattle.control.specs.declared.Decision.{Decision}
 use Rattle.control.specs.declared.Stage.{Stage}
 use Rattle.control.specs.declared.Stage.the-variants.{Waiting}
 use Rattle.control.specs.AsCoded.{waitOver}
 use Rattle.control.proofs.Ranges.{wait-low, wait-high, stage-wait}
+use Rattle.quality.specs.AsCoded.{measuredBy}
 use Rattle.receiver.specs.AsCoded.{decisionsBy, judged}
 use Rattle.receiver.proofs.Onward.{wait-on, SlotTaken, slot-taken}
 use Rattle.receiver.proofs.Scanning.{window-each}
@@ -59,7 +65,7 @@ returns c =
     let h : a .place .next < end = s .pre .1 .0 .1 in
     let t : end ≤ a .place .next + w .wide .result - 1 = c .before .before .if1 .taken in
     rw (c .before .moved .ensures)
-    (wait-on (all s) (a .place) (s .pre .1 .0 .0) (a .wait) (a .slot) (a .byte) (s .pre .1 .1) end (c .narrow .result) h
+    (wait-on (all s) (a .place) (s .pre .1 .0 .0) (a .wait) (a .slot) (a .byte) (s .pre .1 .1) (a .smallest) end (c .narrow .result) h
     (omega (arith, w .wide .ensures)) (omega (arith, window-each (s .pre .0))) (omega (arith, c .narrow .ensures, w .wide .ensures, waiting s .0)))
 
 judge-requires : tie.Need-judge-requires
@@ -79,10 +85,16 @@ module _ (j : tie.After-judge) where
   at-in : at < length (all start)
   at-in = let h : at < length (start .args .samples .now) = j .before .if1 .left in omega (arith, window-each (start .pre .0))
 
--- the slot that is taken there
-module _ (t : tie.After-take) where
+-- the slot that is taken there, and its difference
+module _ (m : tie.After-measure) where
+  abbrev t : tie.After-take
+  t = m .before .before
+
   abbrev begun : tie.Start
   begun = start (t .before)
+
+  abbrev here : Decision
+  here = judged (all begun) (at (t .before))
 
   abbrev stage : Stage
   stage = Waiting (begun .args .wait) (begun .args .slot) (begun .args .byte)
@@ -93,14 +105,27 @@ module _ (t : tie.After-take) where
   level : t .before .judge .result .good ≡ judged (all begun) (at (t .before)) .good
   level = ap (λ (d : Decision). d .good) (t .before .judge .ensures)
 
-  leads : SlotTaken (all begun) (begun .args .place) stage (at (t .before)) (t .take .result)
+  counted : m .measure .result ≡ measuredBy (begun .args .slot) (begun .args .smallest) (here .difference) (t .take .result .stage)
+  counted =
+      m .measure .ensures
+      ∙ ap (λ (d : ℤ). measuredBy (begun .args .slot) (begun .args .smallest) d (t .take .result .stage))
+      (toZ-ofZ (sfits-of {w = w64} {z = t .before .judge .result .difference} (m .before .struct-told .given .1 .1 .1 .0 .1)) ∙ ap (λ (d : Decision). d .difference) (t .before .judge .ensures))
+
+  -- the difference as it is stored
+  stored : mag (m .measure .result .difference) < 2 ^ hbits w64 → toZ w64 (ofZ w64 (m .measure .result .difference)) ≡ m .measure .result .difference
+  stored h = toZ-ofZ (sfits-of {w = w64} {z = m .measure .result .difference} h)
+
+  leads : SlotTaken (all begun) (begun .args .place) stage (begun .args .smallest) (at (t .before)) (t .take .result) (m .measure .result)
   leads =
       let a = begun .args in
-      slot-taken (all begun) (a .place) (begun .pre .1 .0 .0) (a .wait) (a .slot) (a .byte) (begun .pre .1 .1) (at (t .before)) (at-is (t .before)) (at-in (t .before))
-      (t .take .result) took
+      slot-taken (all begun) (a .place) (begun .pre .1 .0 .0) (a .wait) (a .slot) (a .byte) (begun .pre .1 .1) (a .smallest)
+      (at (t .before)) (at-is (t .before)) (at-in (t .before)) (t .take .result) took (m .measure .result) counted
 
 take-requires : tie.Need-take-requires
 take-requires c κs = tt
+
+measure-requires : tie.Need-measure-requires
+measure-requires c κs = tt
 
 add-exact : tie.Need-add-exact
 add-exact c = search needs
@@ -110,8 +135,9 @@ exact-requires c κs = tt
 
 returns-2 : tie.Need-returns-2
 returns-2 c =
-    let t = c .before .before .before in
-    rw (c .exact .ensures) (leads t .bad (sym (level t) ∙ not-true (t .before .judge .result .good) (c .before .if2 .taken)))
+    let e = c .before in
+    let m = e .before .before .before in
+    rw (e .exact .ensures, stored m (c .struct-told2 .given .1 .0 .1)) (leads m .bad (sym (level m) ∙ not-true (t m .before .judge .result .good) (e .before .if2 .taken)))
 
 add-moved : tie.Need-add-moved
 add-moved c = search needs
@@ -121,8 +147,9 @@ moved-requires-2 c κs = tt
 
 returns-3 : tie.Need-returns-3
 returns-3 c =
-    let t = c .before .before .before in
-    rw (c .moved2 .ensures) (leads t .good (sym (level t) ∙ not-false (t .before .judge .result .good) (c .before .if2 .left)))
+    let e = c .before in
+    let m = e .before .before .before in
+    rw (e .moved2 .ensures, stored m (c .struct-told3 .given .1 .0 .1)) (leads m .good (sym (level m) ∙ not-false (t m .before .judge .result .good) (e .before .if2 .left)))
 
 pub wait-for-spec : {M : Type 1} → statement M
-wait-for-spec = tie.close (tie.spec wide-requires add-i sub-i add-left sub-left moved-requires narrow-requires returns judge-requires take-requires add-exact exact-requires returns-2 add-moved moved-requires-2 returns-3)
+wait-for-spec = tie.close (tie.spec wide-requires add-i sub-i add-left sub-left moved-requires narrow-requires returns judge-requires take-requires measure-requires add-exact exact-requires returns-2 add-moved moved-requires-2 returns-3)

@@ -18,13 +18,16 @@ reading-numbers-requires c κs = tt
 same-length : tie.Need-same-length
 same-length c = search needs
 
+same-length-2 : tie.Need-same-length-2
+same-length-2 c = search needs
+
 returns : tie.Need-returns
 returns c =
-    let read = c .before .before .before in
-    let made = read .before .before in
+    let read = c .before .before .before .before in
+    let made = read .before .before .before in
     let a = made .before .before .args in
-    stored (a .receiver) (λ s. blockOf s (a .samples .now) (a .events .now)) (made .receiver-of .ensures) (read .block-by-value .ensures) (c .reading-numbers .ensures)
+    stored (a .receiver) (λ s. blockOf s (a .samples .now) (a .events .now, a .differences .now)) (made .receiver-of .ensures) (read .block-by-value .ensures) (c .reading-numbers .ensures)
 
 pub modem-test-block-lent-spec : {M : Type 1} → statement M
 modem-test-block-lent-spec =
-    tie.close (tie.spec receiver-of-requires block-by-value-requires reading-numbers-requires same-length returns)
+    tie.close (tie.spec receiver-of-requires block-by-value-requires reading-numbers-requires same-length same-length-2 returns)

@@ -1,0 +1,4 @@
+pub mod Laws
+pub mod Stretches
+pub mod Slots
+pub mod Clear
