@@ -1,11 +1,12 @@
 // What every call reports beside its next state and the caller's buffer, and how samples are put into a buffer. What a call
 // gives, accepted or refused, is Outcome of specs/Outcome.antt.
+#![tactic(auto)]
 ghost use Rattle.std.specs.Prelude.{◌≡◌, ◌-◌, min};
 ghost use Rattle.std.proofs.lemmas.List.Edits.{sets};
 
 // The number 0 and how many places of the buffer were used, or the number of a refusal and 0. C programs get it as it is.
 #[repr(C)]
-#[derive(Drop)]
+#[derive(Clone, Copy)]
 pub struct Answer {
     pub number: u8,
     pub count: usize,

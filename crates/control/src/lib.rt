@@ -1,6 +1,7 @@
 // What decisions do to a receiver: to its run and its stage, and which events they bring. How a window comes to its decision is
 // not known here. `moved_by` is the whole rule of a sample. `asks_for`, `is_found` and `take` are parts of it, for a reading that does
 // not judge every window. Every function takes every value of its types.
+#![tactic(auto)]
 ghost use Rattle.std.specs.Prelude.{◌≡◌, true, cond};
 ghost use Rattle.control.specs.Ranges.{is_stage, is_control};
 ghost use Rattle.control.specs.Rules.{run_after, next_of, moved_by, unmoved};
@@ -10,7 +11,7 @@ mod slot;
 
 // What the receiver does between samples: it searches for a start bit, or waits for a bit slot (the specification's moment: 0
 // start, 1 to 8 data, 9 stop) with the byte gathered so far, or a break is held and it waits for mark.
-#[derive(Drop)]
+#[derive(Clone, Copy)]
 pub enum Stage {
     Searching,
     Waiting { wait: u8, slot: u8, byte: u8 },
@@ -18,14 +19,14 @@ pub enum Stage {
 }
 
 // The part of a receiver's state that decisions move: the run of samples with a good level, and the stage.
-#[derive(Drop)]
+#[derive(Clone, Copy)]
 pub struct Control {
     pub run: u8,
     pub stage: Stage,
 }
 
 // The bit of a window, as a slot takes it: mark, space, or doubtful where the two energies are too close to tell.
-#[derive(Drop)]
+#[derive(Clone, Copy)]
 pub enum Bit {
     Mark,
     Space,
@@ -34,7 +35,7 @@ pub enum Bit {
 
 // What the energies of a window decide: the level is good; space is above mark, for a search, a start slot and a held break; the bit, for the
 // other slots. Beside it stands how far the energies are apart, larger minus smaller, which no rule here looks at.
-#[derive(Drop)]
+#[derive(Clone, Copy)]
 pub struct Decision {
     pub good: bool,
     pub space: bool,
@@ -43,7 +44,7 @@ pub struct Decision {
 }
 
 // A character (0 to 255), 256 for no stop bit, 257 for a lost carrier, 258 for a break or 259 for a doubtful bit; or nothing.
-#[derive(Drop)]
+#[derive(Clone, Copy)]
 pub enum Event {
     Nothing,
     Number(u16),
@@ -51,21 +52,21 @@ pub enum Event {
 
 // What a stage asks for: it stays as it is until a decision with run 32 and a tone (space above mark, or not), which leads to the stage
 // `then`; or it waits for a slot.
-#[derive(Drop)]
+#[derive(Clone, Copy)]
 pub enum Asked {
     Tone { space: bool, then: Stage },
     Slot { wait: u8, slot: u8, byte: u8 },
 }
 
 // The stage after a sample, and its event.
-#[derive(Drop)]
+#[derive(Clone, Copy)]
 pub struct Next {
     pub stage: Stage,
     pub event: Event,
 }
 
 // Run and stage after a sample, and its event.
-#[derive(Drop)]
+#[derive(Clone, Copy)]
 pub struct Moved {
     pub control: Control,
     pub event: Event,

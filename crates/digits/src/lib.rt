@@ -1,9 +1,10 @@
 // Numbers as digits, in decimal and in hexadecimal.
+#![tactic(auto)]
 ghost use Rattle.std.specs.Prelude.{◌≡◌, nat_abs, ◌<◌};
 ghost use Rattle.digits.specs.Numbers.{is_digit, digits_of, hex_digit, hexadecimal};
 
 // The digits of a number: the first `len` of the bytes. The others are zeros.
-#[derive(Drop)]
+#[derive(Clone, Copy)]
 pub struct Digits {
     pub bytes: [u8; 5],
     pub len: usize,

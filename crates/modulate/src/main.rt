@@ -1,4 +1,5 @@
 // Prints the sheet of a message: standard input is a band digit and the characters behind it.
+#![tactic(auto)]
 use libc::{STDIN_FILENO, STDOUT_FILENO};
 
 fn main() {

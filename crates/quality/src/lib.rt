@@ -1,5 +1,6 @@
 // The smallest difference of the two energies over the data and stop slots of a character so far, which a receiver keeps beside run and
 // stage. It follows what these do and never steers them. Every function takes every value of its types.
+#![tactic(auto)]
 ghost use Rattle.std.specs.Prelude.{◌≡◌};
 ghost use Rattle.quality.specs.Quality.{least_with, kept_in, is_gathering, is_kept};
 ghost use Rattle.quality.specs.AsCoded.{measured_by};
@@ -7,21 +8,21 @@ ghost use Rattle.quality.specs.AsCoded.{measured_by};
 use control::{Control, Stage};
 
 // The smallest difference so far, or none where no data slot of a character has been taken.
-#[derive(Drop)]
+#[derive(Clone, Copy)]
 pub enum Difference {
     None,
     Of(i64),
 }
 
 // Run and stage, and the smallest difference beside them.
-#[derive(Drop)]
+#[derive(Clone, Copy)]
 pub struct Tracked {
     pub control: Control,
     pub smallest: Difference,
 }
 
 // What a slot leaves: the smallest difference behind it, and the difference that an event of the slot carries.
-#[derive(Drop)]
+#[derive(Clone, Copy)]
 pub struct Measured {
     pub smallest: Difference,
     pub difference: i64,

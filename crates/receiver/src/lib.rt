@@ -1,5 +1,6 @@
 // The receiver, the specification's reader: opening, and blocks of samples to events. Events go to the front of a caller's lists, the
 // specification's lent lists: their numbers, and place by place their differences. The state goes in and comes back by value.
+#![tactic(auto)]
 ghost use Rattle.std.specs.Prelude.{◌≡◌, ◌≤◌, length};
 ghost use Rattle.calls.specs.Refusals.{first_of};
 ghost use Rattle.calls.specs.Outcome.{outcome};
@@ -23,7 +24,7 @@ pub const MOST_EVENTS: usize = tones::MOST_SAMPLES / 48 + 1;
 
 // The last 32 samples, oldest first, a band, the run of samples with a good level, the stage, and the smallest difference of the energies over
 // the data slots of a character so far. The samples stand first, since copies of a state are quicker so.
-#[derive(Drop)]
+#[derive(Clone, Copy)]
 pub struct Receiver {
     pub window: [i16; 32],
     pub band: u8,
@@ -33,14 +34,14 @@ pub struct Receiver {
 }
 
 // What an opening answers: 0 and the fresh state, or the number of a refusal and the fresh state of band 1.
-#[derive(Drop)]
+#[derive(Clone, Copy)]
 pub struct Opened {
     pub number: u8,
     pub receiver: Receiver,
 }
 
 // What a block call answers: the next state, and the number with the count of events.
-#[derive(Drop)]
+#[derive(Clone, Copy)]
 pub struct Reading {
     pub receiver: Receiver,
     pub answer: Answer,

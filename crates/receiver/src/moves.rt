@@ -4,7 +4,7 @@ ghost use Rattle.receiver.specs.AsCoded.{exactly, moved_to, skipped};
 
 // A place in a block, before the window `next`. Before the window `known` the run was `ran`, and the windows since `since` have a good
 // level.
-#[derive(Drop)]
+#[derive(Clone, Copy)]
 pub(crate) struct Place {
     pub next: usize,
     pub known: usize,

@@ -17,7 +17,7 @@ use quality::{Difference, Tracked};
 
 // Where a stage comes to: the place, and there the stage and the smallest difference; the event of the last window, and the difference that
 // it carries.
-#[derive(Drop)]
+#[derive(Clone, Copy)]
 pub(crate) struct Turn {
     pub place: Place,
     pub stage: Stage,
@@ -27,7 +27,7 @@ pub(crate) struct Turn {
 }
 
 // Where the reading of a block comes to: run, stage and smallest difference, and the count of events written.
-#[derive(Drop)]
+#[derive(Clone, Copy)]
 pub(crate) struct Reached {
     pub state: Tracked,
     pub count: usize,

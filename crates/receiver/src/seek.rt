@@ -6,7 +6,7 @@ use super::moves::Place;
 use super::{energy, moves};
 
 // How far a search went on, and whether its last window ends it.
-#[derive(Drop)]
+#[derive(Clone, Copy)]
 pub(crate) struct Sought {
     pub place: Place,
     pub found: bool,

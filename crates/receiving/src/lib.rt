@@ -1,4 +1,5 @@
 // The receiver for programs in other languages. A state is handed in, and handed back, as a struct of numbers, by value.
+#![tactic(auto)]
 ghost use Rattle.std.specs.Prelude.{◌≡◌};
 ghost use Rattle.calls.specs.Outcome.{answer_of, outcome};
 ghost use Rattle.receiver.specs.Calls.{open_of};
@@ -14,7 +15,7 @@ use receiver::{Reading, Receiver};
 // a call gives 0 or 2, these three are 0. Any other stage is out of its range. Where `measured` is 1, `smallest` is the smallest difference so
 // far; where it is 0 there is none, and a call gives 0 for both. Any other number of it is out of its range.
 #[repr(C)]
-#[derive(Drop)]
+#[derive(Clone, Copy)]
 pub struct State {
     pub band: u8,
     pub window: [i16; 32],
@@ -29,7 +30,7 @@ pub struct State {
 
 // What an opening answers: the number, and the fresh state of the band, or of band 1 if it is refused.
 #[repr(C)]
-#[derive(Drop)]
+#[derive(Clone, Copy)]
 pub struct Opening {
     pub number: u8,
     pub receiver: State,
@@ -37,7 +38,7 @@ pub struct Opening {
 
 // What a block call answers: the next state, the number, and the count of events.
 #[repr(C)]
-#[derive(Drop)]
+#[derive(Clone, Copy)]
 pub struct Block {
     pub receiver: State,
     pub number: u8,
@@ -45,7 +46,7 @@ pub struct Block {
 }
 
 // The numbers of a stage by themselves.
-#[derive(Drop)]
+#[derive(Clone, Copy)]
 struct StageNumbers {
     stage: u8,
     wait: u8,
@@ -54,7 +55,7 @@ struct StageNumbers {
 }
 
 // The numbers of a smallest difference by themselves.
-#[derive(Drop)]
+#[derive(Clone, Copy)]
 struct DifferenceNumbers {
     measured: u8,
     smallest: i64,

@@ -1,4 +1,5 @@
 // The transmitter's calls for programs in other languages. A state goes in and comes back by value, as in Rattle.
+#![tactic(auto)]
 ghost use Rattle.std.specs.Prelude.{◌≡◌};
 ghost use Rattle.calls.specs.Outcome.{answer_of, outcome};
 ghost use Rattle.transmitter.specs.Calls.{open_of, idle_of, characters_of};
@@ -8,7 +9,7 @@ use transmitter::{Opened, Transmitter};
 
 // What a sending call answers: the next state, and number and count of samples as fields of their own.
 #[repr(C)]
-#[derive(Drop)]
+#[derive(Clone, Copy)]
 pub struct Sending {
     pub transmitter: Transmitter,
     pub number: u8,

@@ -1,5 +1,6 @@
 // What a sheet is: a band and its samples as text. Here are its greatest length, the places of a reading, and the lines above the
 // samples; `sheet_reader` reads sheets, and `sheet_writer` writes them.
+#![tactic(auto)]
 ghost use Rattle.std.specs.Prelude.{◌≡◌};
 ghost use Rattle.sheet.specs.Text.{head_of};
 
@@ -8,7 +9,7 @@ pub const MOST_BYTES: usize = 65536;
 
 // Where the reading stands in a sample's line: before its first byte, behind a minus, behind the line's only 0, in a number,
 // or behind something that no line has.
-#[derive(Drop)]
+#[derive(Clone, Copy)]
 pub enum Line {
     Start,
     Minus,

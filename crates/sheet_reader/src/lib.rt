@@ -1,4 +1,5 @@
 // Reading a sheet. The whole text is judged first, so that a refusal writes to no buffer.
+#![tactic(auto)]
 ghost use Rattle.std.specs.Prelude.{◌≡◌};
 ghost use Rattle.calls.specs.Outcome.{outcome};
 ghost use Rattle.sheet.specs.Calls.{read_of};
@@ -9,7 +10,7 @@ mod reader;
 use calls::Answer;
 
 // What a reading answers: the band, 0 for a refusal, and the number with the count of samples.
-#[derive(Drop)]
+#[derive(Clone, Copy)]
 pub struct Parsed {
     pub band: u8,
     pub answer: Answer,

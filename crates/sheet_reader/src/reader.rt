@@ -11,7 +11,7 @@ use sheet::Line;
 
 // What a first look at the lines finds: where the reading stands behind them, how many samples they have, and whether all of
 // these are in range.
-#[derive(Drop)]
+#[derive(Clone, Copy)]
 pub(crate) struct Seen {
     pub(crate) line: Line,
     pub(crate) count: usize,

@@ -1,4 +1,5 @@
 // Sheets read and written for programs in other languages.
+#![tactic(auto)]
 ghost use Rattle.std.specs.Prelude.{◌≡◌};
 ghost use Rattle.calls.specs.Outcome.{answer_of, outcome};
 ghost use Rattle.sheet.specs.Calls.{read_of, write_of};
@@ -7,7 +8,7 @@ use calls::Answer;
 
 // What a reading answers: the number, the band, 0 for a refusal, and the count of samples.
 #[repr(C)]
-#[derive(Drop)]
+#[derive(Clone, Copy)]
 pub struct Sheet {
     pub number: u8,
     pub band: u8,

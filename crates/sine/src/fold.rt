@@ -5,7 +5,7 @@ ghost use Rattle.sine.specs.Wave.{phases};
 ghost use Rattle.sine.specs.Fold.{place_of, sign_of};
 
 // S of the phase is the table's number at `place` times `sign`.
-#[derive(Drop)]
+#[derive(Clone, Copy)]
 struct Folded {
     place: u16,
     sign: i16,

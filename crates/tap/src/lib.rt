@@ -1,4 +1,5 @@
 // A tap on a line that carries a pair of bands: one receiver of each, fed the same blocks. The events of both go to one list.
+#![tactic(auto)]
 ghost use Rattle.std.specs.Prelude.{◌≡◌, min};
 ghost use Rattle.calls.specs.Refusals.{first_of};
 ghost use Rattle.calls.specs.Outcome.{outcome};
@@ -12,21 +13,21 @@ use calls::Answer;
 use receiver::{MOST_EVENTS, Receiver};
 
 // The receivers of bands 1 and 2, or of 3 and 4.
-#[derive(Drop)]
+#[derive(Clone, Copy)]
 pub struct Tap {
     pub first: Receiver,
     pub second: Receiver,
 }
 
 // What an opening answers: the number, and the fresh tap of the bands, or of 1 and 2 if it is refused.
-#[derive(Drop)]
+#[derive(Clone, Copy)]
 pub struct OpenedTap {
     pub number: u8,
     pub tap: Tap,
 }
 
 // What a block call answers: the next state, and the number with the count of events.
-#[derive(Drop)]
+#[derive(Clone, Copy)]
 pub struct TapReading {
     pub tap: Tap,
     pub answer: Answer,

@@ -1,4 +1,5 @@
 // The tap for programs in other languages. A state is handed in, and handed back, as the numbers of its two receivers, by value.
+#![tactic(auto)]
 ghost use Rattle.std.specs.Prelude.{◌≡◌};
 ghost use Rattle.calls.specs.Outcome.{answer_of, outcome};
 ghost use Rattle.tap.specs.Calls.{open_of};
@@ -9,7 +10,7 @@ use tap::{Tap, TapReading};
 
 // The receivers of bands 1 and 2, or of 3 and 4.
 #[repr(C)]
-#[derive(Drop)]
+#[derive(Clone, Copy)]
 pub struct Taps {
     pub first: State,
     pub second: State,
@@ -17,7 +18,7 @@ pub struct Taps {
 
 // What an opening answers: the number, and the fresh tap of the bands, or of 1 and 2 if it is refused.
 #[repr(C)]
-#[derive(Drop)]
+#[derive(Clone, Copy)]
 pub struct TapOpening {
     pub number: u8,
     pub tap: Taps,
@@ -25,7 +26,7 @@ pub struct TapOpening {
 
 // What a block call answers: the next state, the number, and the count of events.
 #[repr(C)]
-#[derive(Drop)]
+#[derive(Clone, Copy)]
 pub struct TapBlock {
     pub tap: Taps,
     pub number: u8,

@@ -1,10 +1,12 @@
 // The tones of the bands: how far each moves the phase in a sample, in 1,920ths of a cycle (5 Hz). And the range of a sample.
+#![tactic(auto)]
+
 ghost use Rattle.std.specs.Prelude.{◌≡◌};
 ghost use Rattle.tones.specs.Bands.{is_band, is_pair, tones_of};
 ghost use Rattle.tones.specs.Samples.{is_between, are_between, are_samples};
 
 // The steps of the two tones. Neither is taken to be the larger.
-#[derive(Drop)]
+#[derive(Clone, Copy)]
 pub struct Tones {
     pub space: u16,
     pub mark: u16,

@@ -1,5 +1,6 @@
 // The transmitter: opening, idle and characters. Samples go to the front of a caller's buffer, the specification's lent output; the
 // state goes in and comes back by value.
+#![tactic(auto)]
 ghost use Rattle.std.specs.Prelude.{◌≡◌};
 ghost use Rattle.calls.specs.Refusals.{first_of};
 ghost use Rattle.calls.specs.Outcome.{outcome};
@@ -15,7 +16,7 @@ pub const MOST_CHARACTERS: usize = 100;
 
 // A band, and the phase of the next sample in 1,920ths of a cycle. C programs hold it as it is.
 #[repr(C)]
-#[derive(Drop)]
+#[derive(Clone, Copy)]
 pub struct Transmitter {
     pub band: u8,
     pub phase: u16,
@@ -23,14 +24,14 @@ pub struct Transmitter {
 
 // What an opening answers, in C too: 0 and the fresh state, or the number of a refusal and the fresh state of band 1.
 #[repr(C)]
-#[derive(Drop)]
+#[derive(Clone, Copy)]
 pub struct Opened {
     pub number: u8,
     pub transmitter: Transmitter,
 }
 
 // What a sending call answers: the next state, and the number with the count of samples.
-#[derive(Drop)]
+#[derive(Clone, Copy)]
 pub struct Sent {
     pub transmitter: Transmitter,
     pub answer: Answer,
