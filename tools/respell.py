@@ -115,7 +115,7 @@ def turn(text, path, comments):
             if name in labels and (before.endswith(".") or after.startswith(" = ") or "/specs/" in path):
                 return labels[name]
             # Behind a dot stands a label, or the module of a function.
-            if before.endswith(".") and turned.get(name, name).endswith("_lem"):
+            if (before.endswith(".") or path.endswith((".rt", ".edit"))) and turned.get(name, name).endswith("_lem"):
                 return name
             return turned.get(name, name)
 

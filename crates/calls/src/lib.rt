@@ -1,6 +1,7 @@
 // What every call reports beside its next state and the caller's buffer, and how samples are put into a buffer. What a call
 // gives, accepted or refused, is Outcome of specs/Outcome.antt.
 #![tactic(auto)]
+
 ghost use Rattle.std.specs.Prelude.{◌≡◌, ◌-◌, min};
 ghost use Rattle.std.proofs.lemmas.List.Edits.{sets};
 

@@ -2,6 +2,7 @@
 // not known here. `moved_by` is the whole rule of a sample. `asks_for`, `is_found` and `take` are parts of it, for a reading that does
 // not judge every window. Every function takes every value of its types.
 #![tactic(auto)]
+
 ghost use Rattle.std.specs.Prelude.{◌≡◌, true, cond};
 ghost use Rattle.control.specs.Ranges.{is_stage, is_control};
 ghost use Rattle.control.specs.Rules.{run_after, next_of, moved_by, unmoved};

@@ -1,5 +1,6 @@
 // Prints the events of the sheet on standard input, one to a line.
 #![tactic(auto)]
+
 use libc::{STDIN_FILENO, STDOUT_FILENO};
 
 fn main() {

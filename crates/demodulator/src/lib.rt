@@ -1,6 +1,7 @@
 // The program `demodulate` as a function from bytes to bytes. What is printed goes to the front of a buffer in which every answer
 // has room, and its length is given.
 #![tactic(auto)]
+
 ghost use Rattle.std.specs.Prelude.{◌≡◌, length};
 ghost use Rattle.calls.specs.Outcome.{over};
 ghost use Rattle.printing.specs.Printing.{Front};

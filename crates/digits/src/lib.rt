@@ -1,5 +1,6 @@
 // Numbers as digits, in decimal and in hexadecimal.
 #![tactic(auto)]
+
 ghost use Rattle.std.specs.Prelude.{◌≡◌, nat_abs, ◌<◌};
 ghost use Rattle.digits.specs.Numbers.{is_digit, digits_of, hex_digit, hexadecimal};
 
@@ -10,7 +11,7 @@ pub struct Digits {
     pub len: usize,
 }
 
-pub fn is_digit_lem(byte: u8) -> bool
+pub fn is_digit(byte: u8) -> bool
     ensures { result ≡ is_digit byte }
 {
     48 <= byte && byte <= 57

@@ -1,5 +1,6 @@
 // The receiver's second entry, the specification's thin one above the core: it takes the state lent and leaves the next state in it.
 #![tactic(auto)]
+
 ghost use Rattle.std.specs.Prelude.{◌≡◌};
 ghost use Rattle.calls.specs.Outcome.{outcome};
 ghost use Rattle.receiver.specs.Calls.{block_of};

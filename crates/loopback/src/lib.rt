@@ -1,6 +1,7 @@
 // A message sent, disturbed and read back in one call: the promise, met by code. What is read is what was sent, for every message
 // of at most 100 bytes, every disturbance of at most 100 at each sample, and every size of the blocks.
 #![tactic(auto)]
+
 ghost use Rattle.std.specs.Prelude.{◌≡◌, ◌≤◌};
 ghost use Rattle.calls.specs.Refusals.{first_of};
 ghost use Rattle.calls.specs.Outcome.{outcome};

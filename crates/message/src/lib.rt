@@ -1,5 +1,6 @@
 // A message in one call: leader, characters and trailer to the front of a caller's buffer. All is judged before anything is written.
 #![tactic(auto)]
+
 ghost use Rattle.std.specs.Prelude.{◌≡◌, true, ◌+◌, ◌*◌, ◌≤◌, length};
 ghost use Rattle.std.proofs.lemmas.List.Edits.{sets};
 ghost use Rattle.calls.specs.Refusals.{first_of};

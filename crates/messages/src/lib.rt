@@ -1,5 +1,6 @@
 // A whole message, and one that is sent, disturbed and read back, for programs in other languages.
 #![tactic(auto)]
+
 ghost use Rattle.std.specs.Prelude.{◌≡◌};
 ghost use Rattle.calls.specs.Outcome.{outcome};
 ghost use Rattle.message.specs.Message.{send_of};

@@ -1,5 +1,6 @@
 // Prints the sheet of a message: standard input is a band digit and the characters behind it.
 #![tactic(auto)]
+
 use libc::{STDIN_FILENO, STDOUT_FILENO};
 
 fn main() {

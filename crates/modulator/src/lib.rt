@@ -1,6 +1,7 @@
 // The program `modulate` as a function from bytes to bytes. What is printed goes to the front of a buffer in which every answer
 // has room, and its length is given.
 #![tactic(auto)]
+
 ghost use Rattle.std.specs.Prelude.{◌≡◌, length};
 ghost use Rattle.calls.specs.Outcome.{over, outcome};
 ghost use Rattle.sheet.specs.Calls.{most_bytes};
@@ -28,7 +29,7 @@ pub fn modulate(input: &[u8], out: &mut [u8; MOST_BYTES]) -> usize
         return put_refusal(out, 1);
     }
     let first = input[0];
-    if !digits::is_digit_lem(first) {
+    if !digits::is_digit(first) {
         return put_refusal(out, 1);
     }
     put_sheet(first - 48, &input[1..], out)

@@ -1,6 +1,7 @@
 // The smallest difference of the two energies over the data and stop slots of a character so far, which a receiver keeps beside run and
 // stage. It follows what these do and never steers them. Every function takes every value of its types.
 #![tactic(auto)]
+
 ghost use Rattle.std.specs.Prelude.{◌≡◌};
 ghost use Rattle.quality.specs.Quality.{least_with, kept_in, is_gathering, is_kept};
 ghost use Rattle.quality.specs.AsCoded.{measured_by};

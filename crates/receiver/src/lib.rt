@@ -1,6 +1,7 @@
 // The receiver, the specification's reader: opening, and blocks of samples to events. Events go to the front of a caller's lists, the
 // specification's lent lists: their numbers, and place by place their differences. The state goes in and comes back by value.
 #![tactic(auto)]
+
 ghost use Rattle.std.specs.Prelude.{◌≡◌, ◌≤◌, length};
 ghost use Rattle.calls.specs.Refusals.{first_of};
 ghost use Rattle.calls.specs.Outcome.{outcome};

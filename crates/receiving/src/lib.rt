@@ -1,5 +1,6 @@
 // The receiver for programs in other languages. A state is handed in, and handed back, as a struct of numbers, by value.
 #![tactic(auto)]
+
 ghost use Rattle.std.specs.Prelude.{◌≡◌};
 ghost use Rattle.calls.specs.Outcome.{answer_of, outcome};
 ghost use Rattle.receiver.specs.Calls.{open_of};

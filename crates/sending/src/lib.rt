@@ -1,5 +1,6 @@
 // The transmitter's calls for programs in other languages. A state goes in and comes back by value, as in Rattle.
 #![tactic(auto)]
+
 ghost use Rattle.std.specs.Prelude.{◌≡◌};
 ghost use Rattle.calls.specs.Outcome.{answer_of, outcome};
 ghost use Rattle.transmitter.specs.Calls.{open_of, idle_of, characters_of};

@@ -1,6 +1,7 @@
 // What a sheet is: a band and its samples as text. Here are its greatest length, the places of a reading, and the lines above the
 // samples; `sheet_reader` reads sheets, and `sheet_writer` writes them.
 #![tactic(auto)]
+
 ghost use Rattle.std.specs.Prelude.{◌≡◌};
 ghost use Rattle.sheet.specs.Text.{head_of};
 

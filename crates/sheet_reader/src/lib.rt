@@ -1,5 +1,6 @@
 // Reading a sheet. The whole text is judged first, so that a refusal writes to no buffer.
 #![tactic(auto)]
+
 ghost use Rattle.std.specs.Prelude.{◌≡◌};
 ghost use Rattle.calls.specs.Outcome.{outcome};
 ghost use Rattle.sheet.specs.Calls.{read_of};

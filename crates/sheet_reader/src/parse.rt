@@ -29,7 +29,7 @@ fn first(byte: u8) -> Line
     if byte == 48 {
         return Line::Zero;
     }
-    if digits::is_digit_lem(byte) {
+    if digits::is_digit(byte) {
         return Line::Number {
             negative: false,
             size: (byte - 48) as u16,
@@ -44,7 +44,7 @@ fn after_minus(byte: u8) -> Line
     if byte == 48 {
         return Line::Bad; // -0
     }
-    if digits::is_digit_lem(byte) {
+    if digits::is_digit(byte) {
         return Line::Number {
             negative: true,
             size: (byte - 48) as u16,
@@ -66,7 +66,7 @@ fn in_number(negative: bool, size: u16, byte: u8) -> Line
     if byte == 10 {
         return Line::Start;
     }
-    if !digits::is_digit_lem(byte) {
+    if !digits::is_digit(byte) {
         return Line::Bad;
     }
     if size < 1000 {

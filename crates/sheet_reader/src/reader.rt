@@ -67,7 +67,7 @@ fn is_headed(text: &[u8]) -> bool
     if !text::starts_with(text, &head) {
         return false;
     }
-    digits::is_digit_lem(digit)
+    digits::is_digit(digit)
 }
 
 // The first pass over the lines behind the first three: what a refusal depends on.

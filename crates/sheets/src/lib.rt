@@ -1,5 +1,6 @@
 // Sheets read and written for programs in other languages.
 #![tactic(auto)]
+
 ghost use Rattle.std.specs.Prelude.{◌≡◌};
 ghost use Rattle.calls.specs.Outcome.{answer_of, outcome};
 ghost use Rattle.sheet.specs.Calls.{read_of, write_of};

@@ -4,6 +4,7 @@
 // Sines are made many at a time, in three loops: phases are folded into the first quarter, the numbers there are looked up, and they
 // get their signs. A machine does the first and the last on eight numbers at once, which one loop for all three would prevent.
 #![tactic(auto)]
+
 ghost use Rattle.std.specs.Prelude.{◌≡◌, map, ◌≤◌, nat_abs, ◌*ℤ◌, length};
 ghost use Rattle.integers.specs.Sums.{Bounded};
 ghost use Rattle.sine.specs.Sine.{S};

@@ -5,6 +5,7 @@
 // Nothing says that an input ends, or that bytes are ever taken, and a proved loop has to end. So each loop counts its calls down, from
 // a number that no run uses up.
 #![tactic(auto)]
+
 ghost use Rattle.std.specs.Prelude.{false, ◌≡◌, ◌≤◌, eqb, length};
 ghost use Rattle.io.specs.Counts.{IsPrefixLen};
 

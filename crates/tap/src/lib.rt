@@ -1,5 +1,6 @@
 // A tap on a line that carries a pair of bands: one receiver of each, fed the same blocks. The events of both go to one list.
 #![tactic(auto)]
+
 ghost use Rattle.std.specs.Prelude.{◌≡◌, min};
 ghost use Rattle.calls.specs.Refusals.{first_of};
 ghost use Rattle.calls.specs.Outcome.{outcome};

@@ -1,5 +1,6 @@
 // The tap for programs in other languages. A state is handed in, and handed back, as the numbers of its two receivers, by value.
 #![tactic(auto)]
+
 ghost use Rattle.std.specs.Prelude.{◌≡◌};
 ghost use Rattle.calls.specs.Outcome.{answer_of, outcome};
 ghost use Rattle.tap.specs.Calls.{open_of};

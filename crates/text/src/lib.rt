@@ -1,5 +1,6 @@
 // Bytes of text: put into a buffer, numbers in decimal too, and the front of a text.
 #![tactic(auto)]
+
 ghost use Rattle.std.specs.Prelude.{◌≡◌, length};
 ghost use Rattle.std.proofs.lemmas.List.Edits.{sets};
 ghost use Rattle.digits.specs.Numbers.{decimal};

@@ -1,6 +1,7 @@
 // The transmitter: opening, idle and characters. Samples go to the front of a caller's buffer, the specification's lent output; the
 // state goes in and comes back by value.
 #![tactic(auto)]
+
 ghost use Rattle.std.specs.Prelude.{◌≡◌};
 ghost use Rattle.calls.specs.Refusals.{first_of};
 ghost use Rattle.calls.specs.Outcome.{outcome};

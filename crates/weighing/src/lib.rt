@@ -2,6 +2,7 @@
 // far apart are they.
 // Every function takes every value of its types.
 #![tactic(auto)]
+
 ghost use Rattle.std.specs.Prelude.{◌≡◌, true, false, cond, ◌*◌, ◌≤◌, ltb, nat_abs, pos, ◌-ℤ◌, ◌*ℤ◌};
 ghost use Rattle.std.specs.Int.Signed.{lt_z, le_z};
 ghost use Rattle.control.specs.declared.Bit.TheVariants.{Mark, Space, Doubtful};
