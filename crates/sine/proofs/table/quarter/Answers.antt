@@ -14,8 +14,7 @@ use Rattle.integers.proofs.Tests.{eqZ, eqZ_true, passes, passes_at}
 use Rattle.sine.specs.Sine.{nearest}
 use Rattle.sine.specs.Fold.{HoldsQuarter}
 use Rattle.sine.proofs.Laws.{S-nearest}
-use Rattle.sine.proofs.table.quarter.Statement.{statement}
-use Rattle.sine.proofs.table.quarter.Tie as tie
+use Rattle.sine.proofs.table.quarter.Goals as goal
 
 abbrev right : ℕ → ℤ → Bool
 right k x = eqZ x (nearest k)
@@ -29,9 +28,6 @@ carried xs t =
       at = λ k h. eqZ_true (get_or xs k (pos 0)) (nearest k) (passes_at right (pos 0) xs all k (omega arith)) ∙ sym (S-nearest k h);
     }
 
-returns : tie.Need-returns
+pub returns : goal.returns
 unfolding nearest
 returns c = carried _ refl
-
-pub quarter-spec : {M : Type 1} → statement M
-quarter-spec = tie.close (tie.spec returns)
