@@ -15,7 +15,5 @@ block_in-requires c =
 pub returns : goal.returns
 unfolding block_of
 returns c =
-    let b = c in
-    let l = b.before.before.before.before in
-    let a = l.args in
-    b.block_in.ensures.read ∙ ap (λ (n : ℕ). block_in a.self a.samples.now n (a.events.now, a.differences.now)) l.least-places.ensures
+    let a = c.args in
+    c.block_in.ensures.read ∙ ap (λ (n : ℕ). block_in a.self a.samples.now n (a.events.now, a.differences.now)) c.least-places.ensures

@@ -15,8 +15,8 @@ loop-j-init c = summing_start c.args.window.now c.args.cos.now
 
 pub plus_product-i-requires : goal.plus_product-i-requires
 plus_product-i-requires c =
-    let s = c in
-    summing_asks c.loop-j.invariant s.requires.window s.requires.are_weights.0 c.loop-j-test.true
+    let asks = summing_asks c.loop-j.invariant c.requires.window c.requires.are_weights.0 c.loop-j-test.true in
+    record { sum_bound = asks.0; x_bound = asks.1 }
 
 pub loop-j-preserved : goal.loop-j-preserved
 loop-j-preserved c =
@@ -29,8 +29,8 @@ loop-k-init c = summing_start c.args.window.now c.args.sin.now
 
 pub plus_product-q-requires : goal.plus_product-q-requires
 plus_product-q-requires c =
-    let s = c in
-    summing_asks c.loop-k.invariant s.requires.window s.requires.are_weights.1 c.loop-k-test.true
+    let asks = summing_asks c.loop-k.invariant c.requires.window c.requires.are_weights.1 c.loop-k-test.true in
+    record { sum_bound = asks.0; x_bound = asks.1 }
 
 pub loop-k-preserved : goal.loop-k-preserved
 loop-k-preserved c =

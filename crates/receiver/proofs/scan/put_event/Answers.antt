@@ -11,17 +11,15 @@ use Rattle.receiver.proofs.scan.put_event.Goals as goal
 
 pub bounds-events-at : goal.bounds-events-at
 bounds-events-at c =
-    omega (arith, c.requires.0, ap (λ (e : Event). length (numbers e)) c.event-1.given.1)
+    omega (arith, c.requires.0, ap (λ (e : Event). length (numbers e)) c.in-Number.is)
 
 pub bounds-differences-at : goal.bounds-differences-at
 bounds-differences-at c =
-    omega (arith, c.requires.1, ap (λ (e : Event). length (numbers e)) c.event-1.given.1)
+    omega (arith, c.requires.1, ap (λ (e : Event). length (numbers e)) c.in-Number.is)
 
 pub returns-in-Nothing : goal.returns-in-Nothing
-returns-in-Nothing c = rw c.enum_told-1.given.1 (omega arith, (refl, (refl, refl)))
+returns-in-Nothing c = rw c.in-Nothing.is (record { count = omega arith; lent = refl; noted = refl; told = refl })
 
 pub returns-in-Number : goal.returns-in-Number
 returns-in-Number c =
-    let k = c in
-    let s = k.before.before.before.before in
-    rw (k.event-1.given.1, to_z-of_z {w = w64} s.ranges.difference) (refl, (refl, (refl, c.put_index.ensures)))
+    rw (c.in-Number.is, to_z-of_z {w = w64} c.ranges.difference) (record { count = refl; lent = refl; noted = refl; told = c.put_index.ensures })
