@@ -1,6 +1,5 @@
 -- `receiver::seek::run_back` meets its contract: each turn is one window more with a good level.
 -- Assumes nothing.
-use Prim.Native.Nat.{◌-◌}
 use Rattle.receiver.specs.AsCoded.{decisions_by}
 use Rattle.receiver.proofs.Places.{Back}
 use Rattle.receiver.proofs.seek.run_back.Given as goal
