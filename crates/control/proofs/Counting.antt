@@ -39,7 +39,7 @@ taken_slow wait slot byte d h =
       bit = λ nz l bit b. rw (ne_eqb slot 0 nz, ne_eqb (slot + 1) 0 (λ e. omega arith)) (omega arith);
       doubt = λ nz g e. slow_event nz;
       break = λ l g e z. slow_event (λ z. omega arith);
-      no_stop_lem = λ l. slow_event (λ z. omega arith);
+      no_stop_told = λ l. slow_event (λ z. omega arith);
       character = λ l. slow_event (λ z. omega arith);
     })
   where

@@ -31,9 +31,9 @@ use Rattle.control.proofs.Ranges.{wait_low, slot-most, slot-below, stage_wait, s
 pub event_case : (P : ℕ → Type 0) → ((n : ℕ) → n < 256 → P n) → P no_stop → P carrier_lost → P break_begun → P bit_doubtful
     → (n : ℕ) → is_event n ≡ true → P n
 unfolding is_event
-event_case P char no_stop_lem lost break doubtful n =
+event_case P char no_stop_told lost break doubtful n =
     or_case (ltb n 256) _ (λ e. char n (ltb-true n 256 e))
-    (or_case (eqb n no_stop) _ (λ e. rw (eqb-true n no_stop e) no_stop_lem)
+    (or_case (eqb n no_stop) _ (λ e. rw (eqb-true n no_stop e) no_stop_told)
     (or_case (eqb n carrier_lost) _ (λ e. rw (eqb-true n carrier_lost e) lost)
     (or_case (eqb n break_begun) (eqb n bit_doubtful) (λ e. rw (eqb-true n break_begun e) break) (λ e. rw (eqb-true n bit_doubtful e) doubtful))))
 
@@ -66,7 +66,7 @@ taken-known slot byte d h =
       bit = λ nz l bit b. none;
       doubt = λ nz g e. more refl none;
       break = λ l g e z. more refl none;
-      no_stop_lem = λ l. more refl none;
+      no_stop_told = λ l. more refl none;
       character = λ l. more (byte-known byte (byte-below slot byte (λ z. omega arith) h)) none;
     })
 
@@ -128,7 +128,7 @@ break-only stage run d = told-only break_begun Told d at_slot stage run
           bit = λ nz l bit b. not-told break_begun;
           doubt = λ nz g e. other_told break_begun bit_doubtful (λ e. omega arith);
           break = λ l g e z told. let nine : slot ≡ 9 = omega (arith, slot-most slot byte h) in (rw (nine, z), g, e);
-          no_stop_lem = λ l. other_told break_begun no_stop (λ e. omega arith);
+          no_stop_told = λ l. other_told break_begun no_stop (λ e. omega arith);
           character = λ l. other_told break_begun byte (λ e. omega (arith, byte-below slot byte (λ z. omega arith) h));
         })
 
@@ -156,6 +156,6 @@ doubt_only stage run d = told-only bit_doubtful (λ (stage : Stage). AtDoubt sta
           doubt = λ nz g e told.
               record { slot = slot; byte = byte; stands = refl; behind_start = omega (arith, nz); good = g; doubtful = e };
           break = λ l g e z. other_told bit_doubtful break_begun (λ e. omega arith);
-          no_stop_lem = λ l. other_told bit_doubtful no_stop (λ e. omega arith);
+          no_stop_told = λ l. other_told bit_doubtful no_stop (λ e. omega arith);
           character = λ l. other_told bit_doubtful byte (λ e. omega (arith, byte-below slot byte (λ z. omega arith) h));
         })

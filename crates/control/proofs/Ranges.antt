@@ -104,7 +104,7 @@ taken_kept slot byte d h =
       bit = λ nz l bit b. and_intro (wait_32 slot) (slot_next slot byte bit nz l b (slot-below slot byte nz h));
       doubt = λ nz g e. refl;
       break = λ l g e z. refl;
-      no_stop_lem = λ l. refl;
+      no_stop_told = λ l. refl;
       character = λ l. refl;
     })
 

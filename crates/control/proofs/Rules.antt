@@ -46,13 +46,13 @@ module _ (byte : ℕ) (d : Decision) where
     unfolding taken
     lost g = simp (ne_eqb slot 0 nz, g)
 
-    pub bit_taken_lem : d.good ≡ true → taken slot byte d ≡ bit_taken slot byte d.bit
+    pub bit_taken_good : d.good ≡ true → taken slot byte d ≡ bit_taken slot byte d.bit
     unfolding taken
-    bit_taken_lem g = simp (ne_eqb slot 0 nz, g)
+    bit_taken_good g = simp (ne_eqb slot 0 nz, g)
 
     -- by the bit
     pub data_read : (bit : ℕ) → bit < 2 → d.good ≡ true → slot ≤ 8 → d.bit ≡ bit_of bit → taken slot byte d ≡ gathered slot byte bit
-    data_read bit l g h e = bit_taken_lem g ∙ ap (bit_taken slot byte) e ∙ of_number bit l
+    data_read bit l g h e = bit_taken_good g ∙ ap (bit_taken slot byte) e ∙ of_number bit l
       where
         of_number : (bit : ℕ) → bit < 2 → bit_taken slot byte (bit_of bit) ≡ gathered slot byte bit
         of_number zero l = rw (le-leb slot 8 h)
@@ -60,13 +60,13 @@ module _ (byte : ℕ) (d : Decision) where
         of_number (suc (suc bit)) l = absurd (omega arith)
 
     pub stop-break : d.good ≡ true → 8 < slot → d.bit ≡ Space → byte ≡ 0 → taken slot byte d ≡ hold_break
-    stop-break g h e b = bit_taken_lem g ∙ simp (e, lt-leb slot 8 h, eq-eqb byte 0 b)
+    stop-break g h e b = bit_taken_good g ∙ simp (e, lt-leb slot 8 h, eq-eqb byte 0 b)
 
     pub stop_mark : d.good ≡ true → 8 < slot → d.bit ≡ Mark → taken slot byte d ≡ report byte
-    stop_mark g h e = bit_taken_lem g ∙ simp (e, lt-leb slot 8 h)
+    stop_mark g h e = bit_taken_good g ∙ simp (e, lt-leb slot 8 h)
 
     pub doubt_taken : d.good ≡ true → d.bit ≡ Doubtful → taken slot byte d ≡ report bit_doubtful
-    doubt_taken g e = bit_taken_lem g ∙ rw e
+    doubt_taken g e = bit_taken_good g ∙ rw e
 
 -- the bit in the parts that the code has
 module _ (slot byte : ℕ) where
@@ -98,7 +98,7 @@ pub record Cases (P : Next → Type 0) (slot byte : ℕ) (d : Decision) : Type 0
   pub bit : (slot ≡ 0 → ⊥) → slot ≤ 8 → (bit : ℕ) → bit < 2 → P (gathered slot byte bit)
   pub doubt : (slot ≡ 0 → ⊥) → d.good ≡ true → d.bit ≡ Doubtful → P (report bit_doubtful)
   pub break : 8 < slot → d.good ≡ true → d.bit ≡ Space → byte ≡ 0 → P hold_break
-  pub no_stop_lem : 8 < slot → P (report no_stop)
+  pub no_stop_told : 8 < slot → P (report no_stop)
   pub character : 8 < slot → P (report byte)
 
 module _ (P : Next → Type 0) (slot byte : ℕ) (d : Decision) (c : Cases P slot byte d) where
@@ -109,7 +109,7 @@ module _ (P : Next → Type 0) (slot byte : ℕ) (d : Decision) (c : Cases P slo
   bit_case nz g Space e =
       cond-split P (leb slot 8) _ _
       (λ h. c.bit nz (leb-true slot 8 h) 0 (omega arith))
-      (λ h. cond-split P (eqb byte 0) _ _ (λ z. c.break (leb-false slot 8 h) g e (eqb-true byte 0 z)) (λ z. c.no_stop (leb-false slot 8 h)))
+      (λ h. cond-split P (eqb byte 0) _ _ (λ z. c.break (leb-false slot 8 h) g e (eqb-true byte 0 z)) (λ z. c.no_stop_told (leb-false slot 8 h)))
 
   pub taken_case : P (taken slot byte d)
   unfolding taken

@@ -85,7 +85,7 @@ module _ (d : Decision) (q : Difference) (natural : le_z (pos 0) d.difference 鈮
             (least_natural q d.difference (kept_natural (Waiting wait slot byte) q h) natural));
         doubt = 位 nz g e. rw (ne_eqb slot 0 nz) refl;
         break = 位 l g e z. rw (ne_eqb slot 0 (位 z. omega arith)) refl;
-        no_stop_lem = 位 l. rw (ne_eqb slot 0 (位 z. omega arith)) refl;
+        no_stop_told = 位 l. rw (ne_eqb slot 0 (位 z. omega arith)) refl;
         character = 位 l. rw (ne_eqb slot 0 (位 z. omega arith)) refl;
       })
     where

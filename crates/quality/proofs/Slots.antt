@@ -156,7 +156,7 @@ module _ (s : Tracked) (difference : ℕ → ℤ) (ds : List Decision) (same : D
             bit = λ nz l bit b. rw (ne_eqb slot 0 nz) (record { keeps = goes_on nz; tells = none });
             doubt = λ nz g e. goes_report nz bit_doubtful (λ f g. absurd (g refl));
             break = λ l g e z. goes_break (λ z. omega arith) (λ f g. omega (arith, most));
-            no_stop_lem = λ l. goes_report (λ z. omega arith) no_stop (λ f g. omega (arith, most));
+            no_stop_told = λ l. goes_report (λ z. omega arith) no_stop (λ f g. omega (arith, most));
             character = λ l. goes_report (λ z. omega arith) byte (λ f g. omega (arith, most));
           })
 

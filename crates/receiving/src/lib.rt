@@ -1,4 +1,5 @@
-// The receiver for programs in other languages. A state is handed in, and handed back, as a struct of numbers, by value.
+// The receiver for programs in other languages, which `receiving_c` exports. A state is handed in, and handed back, as a struct of numbers, by
+// value.
 #![tactic(auto)]
 
 ghost use Rattle.std.specs.Prelude.{◌≡◌};
@@ -6,7 +7,7 @@ ghost use Rattle.calls.specs.Outcome.{answer_of, outcome};
 ghost use Rattle.receiver.specs.Calls.{open_of};
 ghost use Rattle.receiving.specs.Numbers.{stage_of, stage_numbers, difference_of, difference_numbers, receiver_of, numbers_of, opened_numbers, reading_numbers, block_numbers, indexed_numbers};
 
-mod testing;
+pub mod testing;
 
 use control::Stage;
 use quality::Difference;
@@ -63,8 +64,7 @@ struct DifferenceNumbers {
 }
 
 // Opens a band.
-#[unsafe(no_mangle)]
-pub extern "C" fn modem_receiver_open(band: u8) -> Opening
+pub fn modem_receiver_open(band: u8) -> Opening
     ensures { result ≡ opened_numbers (open_of band) }
 {
     let opened = Receiver::open(band);
@@ -77,8 +77,7 @@ pub extern "C" fn modem_receiver_open(band: u8) -> Opening
 
 // Reads a block of samples: the numbers of its events go to `events`, and the difference of each to its place in `differences`. A refused call
 // gives back the state as it was handed, even where its numbers are not those that a call gives for it.
-#[unsafe(no_mangle)]
-pub extern "C" fn modem_receiver_block(
+pub fn modem_receiver_block(
     receiver: State,
     samples: &[i16],
     events: &mut [u16],
@@ -92,8 +91,7 @@ pub extern "C" fn modem_receiver_block(
 }
 
 // The same, and with which sample of the block each event came: its index goes to the event's place in `indices`.
-#[unsafe(no_mangle)]
-pub extern "C" fn modem_receiver_block_indexed(
+pub fn modem_receiver_block_indexed(
     receiver: State,
     samples: &[i16],
     events: &mut [u16],

@@ -6,8 +6,7 @@ ghost use Rattle.receiving.specs.Numbers.{block_numbers};
 use crate::{Block, State, reading_numbers, receiver_of};
 
 // Reads a block of samples through the receiver's second entry, to which the state is lent.
-#[unsafe(no_mangle)]
-pub extern "C" fn modem_test_block_lent(
+pub fn modem_test_block_lent(
     receiver: State,
     samples: &[i16],
     events: &mut [u16],

@@ -1,4 +1,5 @@
-// The tap for programs in other languages. A state is handed in, and handed back, as the numbers of its two receivers, by value.
+// The tap for programs in other languages, which `tapping_c` exports. A state is handed in, and handed back, as the numbers of its two
+// receivers, by value.
 #![tactic(auto)]
 
 ghost use Rattle.std.specs.Prelude.{◌≡◌};
@@ -35,8 +36,7 @@ pub struct TapBlock {
 }
 
 // Opens a pair of bands.
-#[unsafe(no_mangle)]
-pub extern "C" fn modem_tap_open(first: u8, second: u8) -> TapOpening
+pub fn modem_tap_open(first: u8, second: u8) -> TapOpening
     ensures { result ≡ opened_numbers (open_of first second) }
 {
     let opened = Tap::open(first, second);
@@ -49,8 +49,7 @@ pub extern "C" fn modem_tap_open(first: u8, second: u8) -> TapOpening
 
 // Reads a block of samples with both receivers, with the difference of each event beside its number. A refused call gives back the state as it
 // was handed.
-#[unsafe(no_mangle)]
-pub extern "C" fn modem_tap_block(
+pub fn modem_tap_block(
     tap: Taps,
     samples: &[i16],
     events: &mut [u16],

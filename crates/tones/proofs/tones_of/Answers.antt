@@ -10,11 +10,9 @@ use Rattle.tones.proofs.Laws.{Band, in_band, tones_band, tones_else}
 use Rattle.tones.proofs.tones_of.Goals as goal
 
 ok : (c : goal.Then-is_band) → is_band c.args.band ≡ true
-
 ok c = sym c.is_band.ensures ∙ c.if-is_band.true
 
 inside : (c : goal.Then-is_band) → Band c.args.band
-
 inside c = in_band c.args.band (ok c)
 
 pub overflow_sub-result : goal.overflow_sub-result

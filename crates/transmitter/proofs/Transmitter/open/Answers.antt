@@ -1,0 +1,13 @@
+-- `transmitter::Transmitter::open` meets its contract.
+-- Assumes nothing.
+use mathlib.Core.Path.{sym, ◌∙◌}
+use Rattle.transmitter.specs.Calls.{open_of}
+use Rattle.transmitter.proofs.Transmitter.open.Goals as goal
+
+pub returns-then-is_band : goal.returns-then-is_band
+unfolding open_of
+returns-then-is_band c = simp (sym c.is_band.ensures ∙ c.if-is_band.true)
+
+pub returns-else-is_band : goal.returns-else-is_band
+unfolding open_of
+returns-else-is_band c = simp (sym c.is_band.ensures ∙ c.if-is_band.false)
