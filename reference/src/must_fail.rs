@@ -1,5 +1,5 @@
 //! Makes the tables of `docs/MUST-FAIL.md`, one for each crate: what a must-fail
-//! edit says of itself, beside the proof and the step at which it was refused.
+//! edit says of itself, beside the proof and the goal at which it was refused.
 
 use std::fs;
 use std::path::Path;
@@ -7,16 +7,30 @@ use std::path::Path;
 /// The line above the tables. What stands above it is written by hand.
 pub const MARKER: &str = "<!-- From here on made by reference/examples/must_fail.rs. -->";
 
+/// What `rt` says of an edit that the prover refuses.
+const REFUSED: &str = "refused, as it must be";
+
+/// Words of an error that tells of a name and not of a fact.
+const GONE: [&str; 4] = [
+    "that can be named from here",
+    "has no field",
+    "is not in scope",
+    "was not admitted",
+];
+
 /// The document with its tables made anew, or all that stands in the way.
 pub fn document(root: &Path) -> Result<String, String> {
     let file = read(&root.join("docs/MUST-FAIL.md"))?;
     let (above, _) = file
         .split_once(&format!("\n{MARKER}\n"))
         .ok_or_else(|| format!("docs/MUST-FAIL.md has no line {MARKER}"))?;
+    let log = read(&root.join("target/must-fail.log"))?;
     let crates = read(&root.join("crates.txt"))?;
     let named = crates.lines().filter(|line| !line.starts_with('#'));
-    let names = named.filter_map(|line| line.split_once(':'));
-    let tables = all(names.map(|(name, _)| table(root, name)))?;
+    let heads = named.filter_map(|line| line.split_once(':'));
+    // Behind the name may stand of which kind the crate is.
+    let names = heads.filter_map(|(head, _)| head.split_whitespace().next());
+    let tables = all(names.map(|name| table(root, name, &log)))?;
     Ok(format!("{above}\n{MARKER}\n{tables}"))
 }
 
@@ -37,7 +51,7 @@ fn all(parts: impl Iterator<Item = Result<String, String>>) -> Result<String, St
 }
 
 /// The heading and the rows of a crate; nothing if it has no edits.
-fn table(root: &Path, name: &str) -> Result<String, String> {
+fn table(root: &Path, name: &str, log: &str) -> Result<String, String> {
     let folder = root.join("crates").join(name).join("must-fail");
     let labels = labels(&folder)?;
     if labels.is_empty() {
@@ -45,9 +59,8 @@ fn table(root: &Path, name: &str) -> Result<String, String> {
     }
     let rows = all(labels.iter().map(|label| {
         let edit = read(&folder.join(format!("{label}.edit")))?;
-        let log = root.join(format!("target/must-fail/{name}/{label}/.log"));
-        let log = fs::read_to_string(log).ok();
-        row(label, &edit, log.as_deref()).map_err(|fault| format!("{name}/{label}: {fault}"))
+        let row = said(log, name, label).and_then(|said| row(label, &edit, said));
+        row.map_err(|fault| format!("{name}/{label}: {fault}"))
     }))?;
     let head = "| edit | the wrong program or statement | what fails first |\n|---|---|---|\n";
     Ok(format!("\n## `{name}`\n\n{head}{rows}"))
@@ -69,15 +82,25 @@ fn read(path: &Path) -> Result<String, String> {
     fs::read_to_string(path).map_err(|fault| format!("{}: {fault}", path.display()))
 }
 
-/// The row of an edit, from its file and from the log of its check.
-pub fn row(label: &str, edit: &str, log: Option<&str>) -> Result<String, String> {
+/// What a log says of an edit, in one line.
+pub fn said<'a>(log: &'a str, name: &str, label: &str) -> Result<&'a str, String> {
+    let head = format!("rt: must-fail {name}/{label}.edit: ");
+    let mut lines = log.lines().filter_map(|line| line.strip_prefix(&*head));
+    match (lines.next(), lines.next()) {
+        (Some(said), None) => Ok(said),
+        (None, _) => Err("the log says nothing of it: run `./run edits`".into()),
+        _ => Err("the log tells of it twice".into()),
+    }
+}
+
+/// The row of an edit, from its file and from what is said of it.
+pub fn row(label: &str, edit: &str, said: &str) -> Result<String, String> {
     let (sentence, fact, mark) = words(edit)?;
-    let log = log.ok_or("there is no log: run `rt must-fail`")?;
-    let [proof, step] = first_error(log)?;
+    let [place, goal] = failed(said)?;
     let cells = [
         format!("`{label}`{mark}"),
         sentence,
-        format!("`{proof}`, `{step}`: {fact}"),
+        format!("`{place}`, `{goal}`: {fact}"),
     ];
     Ok(format!("| {} |\n", cells.map(escaped).join(" | ")))
 }
@@ -105,22 +128,57 @@ fn words(edit: &str) -> Result<(String, String, &'static str), String> {
     Ok((sentence, fact.into(), mark))
 }
 
-/// The proof and the step at which the first error of a log stands. There is no
-/// such step if the edit only made another of the code's shape.
-pub fn first_error(log: &str) -> Result<[String; 2], String> {
-    let mut errors = log.lines().filter_map(|line| line.split_once(": error: "));
-    let (place, message) = errors.next().ok_or("its log has no error")?;
-    if message.contains("that can be named from here") {
-        return Err(format!("a step is gone, and no fact fails: {message}"));
+/// The place and the goal of what failed first: the proof in which the error stands,
+/// or the file of code if the check found no proof by itself. There is no such goal if
+/// the edit only took away a name, or if the prover stopped without a verdict.
+fn failed(said: &str) -> Result<[String; 2], String> {
+    let reason = said.strip_prefix(REFUSED);
+    let reason = reason.ok_or_else(|| format!("it is not refused: {said}"))?;
+    if let Some(words) = GONE.iter().find(|words| reason.contains(**words)) {
+        return Err(format!(
+            "a name is gone, and no fact fails ({words}): {reason}"
+        ));
     }
-    let (_, path) = place
-        .rsplit_once("/proofs/")
-        .ok_or_else(|| format!("its first error stands in no proof: {place}"))?;
+    // Else rt says in parentheses that this tells little of a contract.
+    let reason = reason.strip_prefix(": ");
+    let reason = reason.ok_or_else(|| format!("no error is told: {said}"))?;
+    match reason.strip_prefix("note: ") {
+        Some(note) => unproved(note),
+        None => refuted(reason),
+    }
+}
+
+/// As in `./proofs/put/Answers.antt:9:2: error: `GOAL`: ..`.
+fn refuted(error: &str) -> Result<[String; 2], String> {
+    let told = error.split_once(": error: ");
+    let (place, message) = told.ok_or_else(|| format!("no error is told: {error}"))?;
+    let path = place.strip_prefix("./").unwrap_or(place);
+    let path = path.strip_prefix("proofs/");
+    let path = path.ok_or_else(|| format!("its first error stands in no proof: {place}"))?;
     let proof = path.split(".antt").next().unwrap_or(path);
-    let proof = proof.trim_end_matches("/Proof").trim_start_matches('+');
-    let step = quoted(message).into_iter().next();
-    let step = step.ok_or_else(|| format!("its first error names no step: {message}"))?;
-    Ok([proof.into(), step])
+    let files = ["/Answers", "/Invariants", "/Proof"];
+    let folder = files.iter().find_map(|file| proof.strip_suffix(file));
+    let goal = message
+        .strip_prefix('`')
+        .and_then(|rest| rest.split_once("`: "));
+    let (goal, _) = goal.ok_or_else(|| format!("its first error names no goal: {message}"))?;
+    let proof = folder.unwrap_or(proof).trim_start_matches('+');
+    Ok([proof.into(), goal.into()])
+}
+
+/// As in `src/lib.rt:38:1: it is not proved that .. (`GOAL`)..`.
+fn unproved(note: &str) -> Result<[String; 2], String> {
+    let told = note.split_once(": it is not proved that ");
+    let (place, fact) = told.ok_or_else(|| format!("no error is told: {note}"))?;
+    let file = place.split(':').next().unwrap_or(place);
+    if !file.starts_with("src/") {
+        return Err(format!("its first error stands in no code: {place}"));
+    }
+    let goal = fact
+        .split_once("(`")
+        .and_then(|(_, rest)| rest.split_once("`)"));
+    let (goal, _) = goal.ok_or_else(|| format!("its first error names no goal: {fact}"))?;
+    Ok([file.into(), goal.into()])
 }
 
 /// The texts between backquotes.
