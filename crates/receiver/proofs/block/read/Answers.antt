@@ -27,9 +27,9 @@ scan-last-requires c =
     let s = c.args.receiver in
     let xs = c.args.samples.now in
     let allowed : Accepted s xs (c.args.events.now, c.args.differences.now) =
-        record { range = c.requires.receiver_value; long = search rules; samples = c.requires.samples_value; room = c.requires.samples_in_bounds } in
+    record { range = c.requires.receiver_value; long = search rules; samples = c.requires.samples_value; room = c.requires.samples_in_bounds } in
     let head : Head s xs c.least-n.result c.joined-head.result =
-        record { cut = c.least-n.ensures; long = c.joined-head.ensures.0; whole = c.joined-head.ensures.1 } in
+    record { cut = c.least-n.ensures; long = c.joined-head.ensures.0; whole = c.joined-head.ensures.1 } in
     let w = weigh s c.tones_of-tones.result c.weights-weights.result c.tones_of-tones.ensures c.weights-weights.ensures in record {
       source = block_source allowed head c.weights-weights.result w;
       samples_len_bound = c.requires.samples_len_bound;
@@ -42,9 +42,9 @@ returns c =
     let s = c.args.receiver in
     let xs = c.args.samples.now in
     let allowed : Accepted s xs (c.args.events.now, c.args.differences.now) =
-        record { range = c.requires.receiver_value; long = search rules; samples = c.requires.samples_value; room = c.requires.samples_in_bounds } in
+    record { range = c.requires.receiver_value; long = search rules; samples = c.requires.samples_value; room = c.requires.samples_in_bounds } in
     let head : Head s xs c.least-n.result c.joined-head.result =
-        record { cut = c.least-n.ensures; long = c.joined-head.ensures.0; whole = c.joined-head.ensures.1 } in
+    record { cut = c.least-n.ensures; long = c.joined-head.ensures.0; whole = c.joined-head.ensures.1 } in
     let w = weigh s c.tones_of-tones.result c.weights-weights.result c.tones_of-tones.ensures c.weights-weights.ensures in
     let decided = block-decisions allowed head c.weights-weights.result w in record {
       read = block_read allowed head

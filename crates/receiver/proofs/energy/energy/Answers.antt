@@ -1,11 +1,9 @@
 -- `receiver::energy::energy` meets its contract: each loop sums 32 products.
 -- Assumes nothing.
 use mathlib.Core.Path.{ap₂, ◌∙◌}
-use Prim.Native.Nat.{◌-◌}
 use borrow.Author.Rules.{sfits_of}
 use lib.IntN.{ℤ, ◌+ℤ◌, ◌*ℤ◌}
 use mir.Syntax.{w32, w64}
-use mir.Val.{to_z}
 use mir.Facts.{to_z-of_z}
 use Rattle.receiver.proofs.Correlation.{summing_start, summing_asks, summing_more, summing_end}
 use Rattle.receiver.proofs.energy.energy.Goals as goal

@@ -10,7 +10,6 @@ use Rattle.receiver.proofs.energy.squares.Goals as goal
 use Rattle.receiver.proofs.energy.squares.Goals.{Start}
 
 square : (z : ℤ) → nat_abs z ≤ 1572672000 → nat_abs (z *ℤ z) ≤ 2473297219584000000
-
 square z h = mul_size z z h h
 
 module _ (c : Start) where
