@@ -52,14 +52,16 @@ fn all(parts: impl Iterator<Item = Result<String, String>>) -> Result<String, St
 
 /// The heading and the rows of a crate; nothing if it has no edits.
 fn table(root: &Path, name: &str, log: &str) -> Result<String, String> {
-    let folder = root.join("crates").join(name).join("must-fail");
+    let of = root.join("crates").join(name);
+    let folder = of.join("must-fail");
     let labels = labels(&folder)?;
     if labels.is_empty() {
         return Ok(String::new());
     }
     let rows = all(labels.iter().map(|label| {
         let edit = read(&folder.join(format!("{label}.edit")))?;
-        let row = said(log, name, label).and_then(|said| row(label, &edit, said));
+        let code = |file: &str| fs::read_to_string(of.join(file)).ok();
+        let row = said(log, name, label).and_then(|said| row(label, &edit, said, &code));
         row.map_err(|fault| format!("{name}/{label}: {fault}"))
     }))?;
     let head = "| edit | the wrong program or statement | what fails first |\n|---|---|---|\n";
@@ -93,14 +95,17 @@ pub fn said<'a>(log: &'a str, name: &str, label: &str) -> Result<&'a str, String
     }
 }
 
+/// The text of a file of a crate, if it is there.
+pub type Files<'a> = &'a dyn Fn(&str) -> Option<String>;
+
 /// The row of an edit, from its file and from what is said of it.
-pub fn row(label: &str, edit: &str, said: &str) -> Result<String, String> {
+pub fn row(label: &str, edit: &str, said: &str, files: Files) -> Result<String, String> {
     let (sentence, fact, mark) = words(edit)?;
-    let [place, goal] = failed(said)?;
+    let [proof, goal] = failed(said, files)?;
     let cells = [
         format!("`{label}`{mark}"),
         sentence,
-        format!("`{place}`, `{goal}`: {fact}"),
+        format!("`{proof}`, `{goal}`: {fact}"),
     ];
     Ok(format!("| {} |\n", cells.map(escaped).join(" | ")))
 }
@@ -128,10 +133,9 @@ fn words(edit: &str) -> Result<(String, String, &'static str), String> {
     Ok((sentence, fact.into(), mark))
 }
 
-/// The place and the goal of what failed first: the proof in which the error stands,
-/// or the file of code if the check found no proof by itself. There is no such goal if
-/// the edit only took away a name, or if the prover stopped without a verdict.
-fn failed(said: &str) -> Result<[String; 2], String> {
+/// The proof and the goal of what failed first. There is no such goal if the edit only
+/// took away a name, or if the prover stopped without a verdict.
+fn failed(said: &str, files: Files) -> Result<[String; 2], String> {
     let reason = said.strip_prefix(REFUSED);
     let reason = reason.ok_or_else(|| format!("it is not refused: {said}"))?;
     if let Some(words) = GONE.iter().find(|words| reason.contains(**words)) {
@@ -143,12 +147,13 @@ fn failed(said: &str) -> Result<[String; 2], String> {
     let reason = reason.strip_prefix(": ");
     let reason = reason.ok_or_else(|| format!("no error is told: {said}"))?;
     match reason.strip_prefix("note: ") {
-        Some(note) => unproved(note),
+        Some(note) => unproved(note, files),
         None => refuted(reason),
     }
 }
 
-/// As in `./proofs/put/Answers.antt:9:2: error: `GOAL`: ..`.
+/// As in `./proofs/put/Answers.antt:9:2: error: `GOAL`: ..`: what is written as a proof
+/// does not prove the goal.
 fn refuted(error: &str) -> Result<[String; 2], String> {
     let told = error.split_once(": error: ");
     let (place, message) = told.ok_or_else(|| format!("no error is told: {error}"))?;
@@ -166,19 +171,52 @@ fn refuted(error: &str) -> Result<[String; 2], String> {
     Ok([proof.into(), goal.into()])
 }
 
-/// As in `src/lib.rt:38:1: it is not proved that .. (`GOAL`)..`.
-fn unproved(note: &str) -> Result<[String; 2], String> {
+/// As in `src/lib.rt:38:1: it is not proved that .. (`GOAL`)..`: nothing is written for
+/// the goal, and the check finds no proof by itself.
+fn unproved(note: &str, files: Files) -> Result<[String; 2], String> {
     let told = note.split_once(": it is not proved that ");
     let (place, fact) = told.ok_or_else(|| format!("no error is told: {note}"))?;
-    let file = place.split(':').next().unwrap_or(place);
-    if !file.starts_with("src/") {
-        return Err(format!("its first error stands in no code: {place}"));
-    }
+    let function = function(place, files);
+    let function = function.ok_or_else(|| format!("it stands in no function: {place}"))?;
     let goal = fact
         .split_once("(`")
         .and_then(|(_, rest)| rest.split_once("`)"));
     let (goal, _) = goal.ok_or_else(|| format!("its first error names no goal: {fact}"))?;
-    Ok([file.into(), goal.into()])
+    Ok([function, goal.into()])
+}
+
+/// The function at a place of the code, named as the folder of its proof is, whether
+/// there is one or not: behind its module and its struct. An edit replaces lines by as
+/// many, so the function stands where it stood before.
+fn function(place: &str, files: Files) -> Option<String> {
+    let (file, rest) = place.split_once(':')?;
+    let module = file.strip_prefix("src/")?.strip_suffix(".rt")?;
+    let line: usize = rest.split(':').next()?.parse().ok()?;
+    let text = files(file)?;
+    let lines: Vec<&str> = text.lines().collect();
+    let behind = lines.get(line.checked_sub(1)?..)?;
+    let attributes = behind
+        .iter()
+        .take_while(|line| line.trim().starts_with("#["));
+    let before = lines.get(..line + attributes.count())?;
+    let at = before.iter().rposition(|line| declared(line).is_some())?;
+    let is_method = before[at].starts_with(' ');
+    let heads = before[..at].iter().rev();
+    let mut structs = heads.filter_map(|line| line.strip_prefix("impl ")?.strip_suffix(" {"));
+    let parts = [
+        (module != "lib" && module != "main").then_some(module),
+        structs.next().filter(|_| is_method),
+        declared(before[at]),
+    ];
+    Some(parts.into_iter().flatten().collect::<Vec<_>>().join("/"))
+}
+
+/// The name of the function that a line of code begins.
+fn declared(line: &str) -> Option<&str> {
+    let (head, rest) = line.trim_start().split_once("fn ")?;
+    let words = ["pub", "extern", "\"C\""];
+    let is_head = head.split_whitespace().all(|word| words.contains(&word));
+    rest.split('(').next().filter(|_| is_head)
 }
 
 /// The texts between backquotes.

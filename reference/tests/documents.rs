@@ -108,29 +108,67 @@ fn the_functions_stand_above_the_tables() {
 const EDIT: &str = "Nothing is\nput.\nWhy: a | b, not c\nfile: src/lib.rt\nold: put\nnew: b\n";
 const ERROR: &str = "refused, as it must be: ./proofs/+table/put/Answers.antt:22:30: error: \
     `loop-i-preserved`: the types `a` and `b";
-const NOTE: &str = "refused, as it must be: note: src/table.rt:38:1: it is not proved that the \
+const NOTE: &str = "refused, as it must be: note: src/table.rt:9:7: it is not proved that the \
     sum fits (of `u8`) (`overflow_add-n`); `search` gave up";
+const CODE: &str = "
+// fn none() {
+impl Table {
+    #[inline]
+    pub fn put(self) {
+    }
+}
+
+fn add(n: u8) -> u8 {
+    n + 1
+}
+
+#[unsafe(no_mangle)]
+pub extern \"C\" fn exported() -> u8
+    ensures { result ≡ 1 }
+";
+
+fn made_up(file: &str) -> Option<String> {
+    let text = CODE.trim_start().into();
+    ["src/table.rt", "src/lib.rt"]
+        .contains(&file)
+        .then_some(text)
+}
+
+fn row_of(edit: &str, said: &str) -> Result<String, String> {
+    row("none", edit, said, &made_up)
+}
 
 #[test]
 fn a_row_has_the_words_of_the_edit_and_the_goal_of_the_log() {
     let expected =
         "| `none` | Nothing is put. | `table/put`, `loop-i-preserved`: a \\| b, not c |\n";
-    assert_eq!(row("none", EDIT, ERROR), Ok(expected.into()));
+    assert_eq!(row_of(EDIT, ERROR), Ok(expected.into()));
     let read = EDIT.replace("Why:", "Why (read in the proof):");
     let expected = expected.replace("`none`", "`none` †");
-    assert_eq!(row("none", &read, ERROR), Ok(expected));
+    assert_eq!(row_of(&read, ERROR), Ok(expected));
 }
 
 #[test]
 fn the_goal_stands_in_a_proof_or_in_code() {
-    let named = |said: &str| quoted(&row("none", EDIT, said).expect("a row"))[1..].to_vec();
+    let named = |said: &str| quoted(&row_of(EDIT, said).expect("a row"))[1..].to_vec();
     assert_eq!(named(ERROR), ["table/put", "loop-i-preserved"]);
     let invariants = ERROR.replace("Answers", "Invariants");
     assert_eq!(named(&invariants), ["table/put", "loop-i-preserved"]);
     // A file of lemmas that has this name.
     let lemmas = ERROR.replace("+table/put/", "");
     assert_eq!(named(&lemmas), ["Answers", "loop-i-preserved"]);
-    assert_eq!(named(NOTE), ["src/table.rt", "overflow_add-n"]);
+    for (place, function) in [
+        ("src/table.rt:3:5", "table/Table/put"),
+        ("src/table.rt:4:5", "table/Table/put"),
+        ("src/table.rt:8:1", "table/add"),
+        ("src/table.rt:9:7", "table/add"),
+        ("src/table.rt:12:1", "table/exported"),
+        ("src/lib.rt:13:1", "exported"),
+        ("src/lib.rt:4:1", "Table/put"),
+    ] {
+        let line = NOTE.replace("src/table.rt:9:7", place);
+        assert_eq!(named(&line), [function, "overflow_add-n"], "{place}");
+    }
 }
 
 #[test]
@@ -145,7 +183,7 @@ fn an_edit_without_its_words_is_refused() {
         (&EDIT.replace(", not", ",\nnot"), "`Why: `"),
     ] {
         for line in [ERROR, NOTE] {
-            let found = row("none", edit, line).expect_err(edit);
+            let found = row_of(edit, line).expect_err(edit);
             assert!(found.contains(fault), "{edit}{found}");
         }
     }
@@ -203,9 +241,13 @@ fn a_line_without_a_goal_is_refused() {
         (noted("the sum fits"), "no goal"),
         (noted("the sum fits (`overf"), "no goal"),
         (ERROR.replace("/proofs/", "/specs/"), "no proof"),
-        (NOTE.replace("src/", "specs/"), "no code"),
+        (NOTE.replace("src/", "specs/"), "no function"),
+        (NOTE.replace("table", "gone"), "no function"),
+        (NOTE.replace(":9:", ":1:"), "no function"),
+        (NOTE.replace(":9:", ":0:"), "no function"),
+        (NOTE.replace(":9:", ":99:"), "no function"),
     ] {
-        let found = row("none", EDIT, &line).expect_err(&line);
+        let found = row_of(EDIT, &line).expect_err(&line);
         assert!(found.contains(fault), "{line}: {found}");
     }
 }
