@@ -3,7 +3,6 @@
 use mathlib.Core.Path.{◌≡◌}
 use Prim.Native.Nat.{ℕ, zero, suc, ◌<◌, ◌≤◌}
 use native.Mathlib.Omega.{arith}
-use borrow.Author.Rules.{rules}
 use lib.IntN.{pos, neg_ℤ, ◌-ℤ◌, +ℤ_idl}
 use lib.Signed.{mag}
 use mir.Facts.{to_z-of_z}
@@ -11,8 +10,7 @@ use mir.Syntax.{w16}
 use mir.Val.{SFits, to_z}
 use mir.ValLaws.{to_z_pos}
 use Rattle.sheet.specs.Parse.{sample_of}
-use Rattle.sheet_reader.proofs.parse.signed.Statement.{statement}
-use Rattle.sheet_reader.proofs.parse.signed.Tie as tie
+use Rattle.sheet_reader.proofs.parse.signed.Goals as goal
 
 -- a small number and its negative fit
 module _ (n : ℕ) (h : n < 10000) where
@@ -29,22 +27,16 @@ module _ (n : ℕ) (h : n < 10000) where
   fits : SFits w16 (neg_ℤ (pos n))
   fits = record { sfits = omega (arith, size n) }
 
-cast-z : tie.Need-overflow-cast-z
-cast-z c = search rules
+pub overflow_sub-result : goal.overflow_sub-result
+overflow_sub-result c = let n = c.args.size in rw (negated n c.requires) (fits n c.requires)
 
-sub-result : tie.Need-overflow-sub-result
-sub-result c = let n = c.before.args.size in rw (negated n c.before.requires) (fits n c.before.requires)
-
-returns : tie.Need-returns
+pub returns-then-negative : goal.returns-then-negative
 unfolding sample_of
-returns c =
-    let n = c.before.args.size in
-    let h = c.before.requires in
-    rw (negated n h, to_z-of_z {w = w16} (fits n h), c.if1.true)
+returns-then-negative c =
+    let n = c.args.size in
+    let h = c.requires in
+    rw (negated n h, to_z-of_z {w = w16} (fits n h), c.if-negative.true)
 
-returns-2 : tie.Need-returns-2
+pub returns-else-negative : goal.returns-else-negative
 unfolding sample_of
-returns-2 c = rw (plain c.before.args.size c.before.requires, c.if1.false)
-
-pub signed-spec : {M : Type 1} → statement M
-signed-spec = tie.close (tie.spec cast-z sub-result returns returns-2)
+returns-else-negative c = rw (plain c.args.size c.requires, c.if-negative.false)
