@@ -1,5 +1,5 @@
-//! Makes the tables of `docs/MUST-FAIL.md` anew, from the edits and from the logs
-//! that `rt must-fail` leaves: `cargo run --offline --example must_fail`.
+//! Makes the tables of `docs/MUST-FAIL.md` anew, from the edits and from what
+//! `target/must-fail.log` says of them: `cargo run --offline --example must_fail`.
 
 use reference::must_fail;
 use std::fs;

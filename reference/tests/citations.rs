@@ -19,8 +19,10 @@ fn below(folder: &str, endings: &[&str]) -> Vec<PathBuf> {
         for entry in fs::read_dir(folder).expect("a folder") {
             let path = entry.expect("readable").path();
             let ending = path.extension().unwrap_or_default().to_string_lossy();
-            if path.is_dir() && !path.ends_with("target") {
-                folders.push(path);
+            if path.is_dir() {
+                // What is built there is no text of ours.
+                let is_built = path.ends_with("target") || path.ends_with("out");
+                folders.extend((!is_built).then_some(path));
             } else if endings.contains(&&*ending) {
                 files.push(path);
             }

@@ -2,7 +2,7 @@
 //! edit has one row, and each public function has two edits of its crate or more.
 
 use crate::common::made::assert_made;
-use reference::must_fail::{self, quoted, row, MARKER};
+use reference::must_fail::{self, quoted, row, said, MARKER};
 use std::fs;
 use std::path::{Path, PathBuf};
 
@@ -88,7 +88,7 @@ fn each_edit_has_one_row() {
     same(&named.collect::<Vec<_>>(), &edits());
 }
 
-/// The gate tries all edits before it runs the tests, so each has its log there.
+/// The gate tries all edits before it runs the tests, so each has its line in the log.
 #[test]
 fn the_tables_are_what_the_command_makes() {
     let made = must_fail::document(Path::new(ROOT));
@@ -106,19 +106,69 @@ fn the_functions_stand_above_the_tables() {
 }
 
 const EDIT: &str = "Nothing is\nput.\nWhy: a | b, not c\nfile: src/lib.rt\nold: put\nnew: b\n";
-const PLACE: &str = "/copy/proofs/+table/put/Proof.antt:22:30";
+const ERROR: &str = "refused, as it must be: ./proofs/+table/put/Answers.antt:22:30: error: \
+    `loop-i-preserved`: the types `a` and `b";
+const NOTE: &str = "refused, as it must be: note: src/table.rt:9:7: it is not proved that the \
+    sum fits (of `u8`) (`overflow_add-n`); `search` gave up";
+const CODE: &str = "
+// fn none() {
+impl Table {
+    #[inline]
+    pub fn put(self) {
+    }
+}
 
-fn log() -> String {
-    format!("note\n{PLACE}: error: `loop`: the types `a` and `b`\n{PLACE}: error: `end`\n")
+fn add(n: u8) -> u8 {
+    n + 1
+}
+
+#[unsafe(no_mangle)]
+pub extern \"C\" fn exported() -> u8
+    ensures { result ≡ 1 }
+";
+
+fn made_up(file: &str) -> Option<String> {
+    let text = CODE.trim_start().into();
+    ["src/table.rt", "src/lib.rt"]
+        .contains(&file)
+        .then_some(text)
+}
+
+fn row_of(edit: &str, said: &str) -> Result<String, String> {
+    row("none", edit, said, &made_up)
 }
 
 #[test]
-fn a_row_has_the_words_of_the_edit_and_the_step_of_the_log() {
-    let expected = "| `none` | Nothing is put. | `table/put`, `loop`: a \\| b, not c |\n";
-    assert_eq!(row("none", EDIT, Some(&log())), Ok(expected.into()));
+fn a_row_has_the_words_of_the_edit_and_the_goal_of_the_log() {
+    let expected =
+        "| `none` | Nothing is put. | `table/put`, `loop-i-preserved`: a \\| b, not c |\n";
+    assert_eq!(row_of(EDIT, ERROR), Ok(expected.into()));
     let read = EDIT.replace("Why:", "Why (read in the proof):");
     let expected = expected.replace("`none`", "`none` †");
-    assert_eq!(row("none", &read, Some(&log())), Ok(expected));
+    assert_eq!(row_of(&read, ERROR), Ok(expected));
+}
+
+#[test]
+fn the_goal_stands_in_a_proof_or_in_code() {
+    let named = |said: &str| quoted(&row_of(EDIT, said).expect("a row"))[1..].to_vec();
+    assert_eq!(named(ERROR), ["table/put", "loop-i-preserved"]);
+    let invariants = ERROR.replace("Answers", "Invariants");
+    assert_eq!(named(&invariants), ["table/put", "loop-i-preserved"]);
+    // A file of lemmas that has this name.
+    let lemmas = ERROR.replace("+table/put/", "");
+    assert_eq!(named(&lemmas), ["Answers", "loop-i-preserved"]);
+    for (place, function) in [
+        ("src/table.rt:3:5", "table/Table/put"),
+        ("src/table.rt:4:5", "table/Table/put"),
+        ("src/table.rt:8:1", "table/add"),
+        ("src/table.rt:9:7", "table/add"),
+        ("src/table.rt:12:1", "table/exported"),
+        ("src/lib.rt:13:1", "exported"),
+        ("src/lib.rt:4:1", "Table/put"),
+    ] {
+        let line = NOTE.replace("src/table.rt:9:7", place);
+        assert_eq!(named(&line), [function, "overflow_add-n"], "{place}");
+    }
 }
 
 #[test]
@@ -132,24 +182,73 @@ fn an_edit_without_its_words_is_refused() {
         (&EDIT.replace("Why: a | b, not c", "Why: "), "`Why: `"),
         (&EDIT.replace(", not", ",\nnot"), "`Why: `"),
     ] {
-        let found = row("none", edit, Some(&log())).expect_err(edit);
-        assert!(found.contains(fault), "{edit}{found}");
+        for line in [ERROR, NOTE] {
+            let found = row_of(edit, line).expect_err(edit);
+            assert!(found.contains(fault), "{edit}{found}");
+        }
     }
 }
 
 #[test]
-fn a_log_without_a_step_is_refused() {
-    let gone = "`tie` has no `Need-3` that can be named from here";
+fn an_edit_that_has_not_one_line_in_the_log_is_refused() {
+    let line = |path: &str| format!("rt: must-fail {path}.edit: {ERROR}\n");
+    let others = ["one/no", "one/none_2", "two/none", "one/all"].map(line);
+    let others = format!("== one\nrt: one proved\n{}", others.concat());
+    let log = format!("{others}{}{ERROR}\n", line("one/none"));
+    assert_eq!(said(&log, "one", "none"), Ok(ERROR));
     for (log, fault) in [
-        (None, "no log"),
-        (Some(String::new()), "no error"),
-        (Some(format!("{PLACE}: note: `loop`")), "no error"),
-        (Some(format!("{PLACE}: error: too long")), "no step"),
-        (Some(format!("{PLACE}: error: {gone}\n{}", log())), gone),
-        (Some(log().replace("/proofs/", "/specs/")), "no proof"),
+        (String::new(), "says nothing"),
+        (others, "says nothing"),
+        (
+            log.replace("rt: must-fail one/none.", "one/none."),
+            "says nothing",
+        ),
+        (log + &line("one/none"), "twice"),
     ] {
-        let found = row("none", EDIT, log.as_deref()).expect_err(fault);
+        let found = said(&log, "one", "none").expect_err(fault);
         assert!(found.contains(fault), "{found}");
+    }
+}
+
+#[test]
+fn a_line_without_a_goal_is_refused() {
+    let gone = "`put` has no `Else-2` that can be named from here";
+    let behind = |line: &str, mark: &str, words: &str| {
+        let (place, _) = line.split_once(mark).expect("a mark");
+        format!("{place}{mark}{words}")
+    };
+    let named = |words: &str| behind(ERROR, ": error: ", words);
+    let noted = |words: &str| behind(NOTE, ": it is not proved that ", words);
+    for (line, fault) in [
+        ("".into(), "not refused"),
+        (
+            "NOT REFUSED: the crate is still proved".into(),
+            "not refused",
+        ),
+        ("NOT TRIED: its check was killed".into(), "not refused"),
+        ("BAD EDIT: there is no file src/l.rt".into(), "not refused"),
+        ("refused, as it must be".into(), "no error"),
+        (ERROR.replace(": error:", ": note:"), "no error"),
+        (NOTE.replace("is not proved", "is proved"), "no error"),
+        (ERROR.replace(": ./", " (only by a limit): ./"), "no error"),
+        (named("too long"), "no goal"),
+        (named("too long for `put`: a"), "no goal"),
+        (named("`loop-i-preser"), "no goal"),
+        (named(&format!("`loop`: {gone}")), gone),
+        (named("`loop`: a record has no field `b`"), "a name is gone"),
+        (named("`loop`: `b` is not in scope"), "a name is gone"),
+        (named("`loop`: `b` was not admitted"), "a name is gone"),
+        (noted("the sum fits"), "no goal"),
+        (noted("the sum fits (`overf"), "no goal"),
+        (ERROR.replace("/proofs/", "/specs/"), "no proof"),
+        (NOTE.replace("src/", "specs/"), "no function"),
+        (NOTE.replace("table", "gone"), "no function"),
+        (NOTE.replace(":9:", ":1:"), "no function"),
+        (NOTE.replace(":9:", ":0:"), "no function"),
+        (NOTE.replace(":9:", ":99:"), "no function"),
+    ] {
+        let found = row_of(EDIT, &line).expect_err(&line);
+        assert!(found.contains(fault), "{line}: {found}");
     }
 }
 

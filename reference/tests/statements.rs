@@ -13,7 +13,7 @@ type Checked<T> = Result<T, String>;
 /// The text of a file by its path below `crates/`, if it is there.
 pub type Files<'a> = &'a dyn Fn(&str) -> Option<String>;
 
-/// A file, or the folder of a function's proof, and what is named of it.
+/// A file of statements, proofs or code, and what is named of it.
 struct Place {
     path: String,
     names: Vec<String>,
@@ -25,7 +25,7 @@ struct Row {
     proved: Vec<Place>,
 }
 
-/// A theorem or a contract. `result` is what it says without what a function asks
+/// A theorem or a function. `result` is what it says without what a function asks
 /// for, and `text` the file, which stands at `place`.
 struct Found {
     name: String,
@@ -62,7 +62,21 @@ fn module(path: &str, files: Files) -> Checked<String> {
     let text = files(&format!("{path}.antt")).ok_or(format!("no file {path}"))?;
     let (folder, name) = path.rsplit_once('/').ok_or("no folder")?;
     let root = files(&format!("{folder}/Lib.antt")).unwrap_or_default();
-    hold(names_module(&root, name), format!("{path} is not checked"))?;
+    hold(
+        names_module(&root, name, ""),
+        format!("{path} is not checked"),
+    )?;
+    Ok(text)
+}
+
+/// The text of a file of code, which is proved if it is the root or if the root
+/// names it.
+fn code(path: &str, files: Files) -> Checked<String> {
+    let text = files(&format!("{path}.rt")).ok_or(format!("no file {path}"))?;
+    let (folder, name) = path.rsplit_once('/').ok_or("no folder")?;
+    let root = files(&format!("{folder}/lib.rt")).unwrap_or_default();
+    let fact = name == "lib" || names_module(&root, name, ";");
+    hold(fact, format!("{path} is not checked"))?;
     Ok(text)
 }
 
@@ -92,30 +106,30 @@ fn theorem(path: &str, text: &str, name: &str) -> Checked<Found> {
     })
 }
 
-/// The function whose proof has this folder. In front of it stands a module, in
-/// small letters, or a struct.
-fn function(path: &str, files: Files) -> Checked<Found> {
-    files(&format!("{path}/Proof.antt")).ok_or(format!("no file {path}"))?;
-    let (name, inner) = path.split_once("/proofs/").ok_or("no proof")?;
-    let mut folders: Vec<&str> = inner.split('/').collect();
-    let function = folders.pop().unwrap_or_default().trim_start_matches('+');
-    let is_module = |folder: &&&str| folder.starts_with(char::is_lowercase);
-    let module = folders.iter().find(is_module).unwrap_or(&"lib");
-    let place = format!("{name}/src/{module}.rt");
-    let text = files(&place).ok_or(format!("no file {place}"))?;
-    let contract = contract(&text, function);
-    let contract = contract.ok_or(format!("{place} has no one contract of {function}"))?;
+/// A function, in front of which stands the struct that it belongs to, if it does.
+fn function(path: &str, text: &str, name: &str) -> Checked<Found> {
+    let (of, last) = match name.split_once("::") {
+        Some((of, last)) => (Some(of), last),
+        None => (None, name),
+    };
+    let has = |of| text.lines().any(|line| line == format!("impl {of} {{"));
+    hold(
+        of.into_iter().all(has),
+        format!("{path} has no impl of {name}"),
+    )?;
+    let contract = contract(text, last);
+    let contract = contract.ok_or(format!("{path} has no one contract of {name}"))?;
     // What is asked for stands in front.
     let result = contract[contract.find("ensures ").unwrap_or(0)..].into();
-    let alone = contract.strip_prefix("ensures { λ r. ⌜ ");
-    let alone = alone.and_then(|rest| rest.strip_suffix(" ⌝ }"));
-    let alone = alone.filter(|rest| !rest.contains('⌝'));
+    let alone = contract.strip_prefix("ensures { ");
+    let alone = alone.and_then(|rest| rest.strip_suffix(" }"));
+    let alone = alone.filter(|rest| !rest.contains(" ensures "));
     Ok(Found {
-        name: path.into(),
+        name: name.into(),
         statement: alone.unwrap_or(&contract).into(),
         result,
-        place,
-        text,
+        place: path.into(),
+        text: text.into(),
     })
 }
 
@@ -142,20 +156,26 @@ fn said(found: &Found, written: Option<&str>, row: &Row) -> Checked<()> {
 
 fn proved(place: &Place, row: &Row, files: Files) -> Checked<()> {
     let Place { path, names } = place;
-    hold(path.contains("/proofs/"), format!("{path} is no proof"))?;
-    if files(&format!("{path}.antt")).is_none() {
-        hold(names.len() < 2, format!("{path} is one statement"))?;
-        let written = names.first().map(String::as_str);
-        return said(&function(path, files)?, written, row);
-    }
-    hold(!names.is_empty(), format!("no theorem of {path}"))?;
-    let text = module(path, files)?;
+    let is_code = path.contains("/src/");
+    let fact = is_code || path.contains("/proofs/");
+    hold(fact, format!("{path} is no proof"))?;
+    hold(!names.is_empty(), format!("no name of {path}"))?;
+    let text = if is_code {
+        code(path, files)?
+    } else {
+        module(path, files)?
+    };
     for item in names {
         let (name, written) = match item.split_once(" : ") {
             Some((name, written)) => (name, Some(written)),
             None => (item.as_str(), None),
         };
-        said(&theorem(path, &text, name)?, written, row)?;
+        let found = if is_code {
+            function(path, &text, name)?
+        } else {
+            theorem(path, &text, name)?
+        };
+        said(&found, written, row)?;
     }
     Ok(())
 }

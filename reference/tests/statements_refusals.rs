@@ -15,8 +15,8 @@ private-sum : ℕ
 ";
 
 const LAWS: &str = "
-use Rattle·one·specs.specs.Sums.{Total, sum}
-use Rattle·two.specs.Sums as others
+use Rattle.one.specs.Sums.{Total, sum}
+use Rattle.two.specs.Sums as others
 
 pub total : (n : ℕ) → Total
     n
@@ -40,13 +40,18 @@ abbrev pub Stated : Type 0
 ";
 
 const CODE: &str = "
-ghost use Rattle·one·specs.specs.Sums.{Total, sum};
+ghost use Rattle.one.specs.Sums.{Total, sum};
+ghost use Rattle.two.specs.Sums as others;
+
+mod adding;
+pub mod alone;
+// mod unnamed;
 
 impl Adder {
     // As `fn add(` in the module does.
     pub fn add(self, n: u8) -> u8
-        ensures { λ r. ⌜ r
-            ≡ sum 1 n ⌝ }
+        ensures { result
+            ≡ sum 1 n }
     {
         n + 1
     }
@@ -57,16 +62,36 @@ fn bare(n: u8) -> u8 {
 }
 
 fn asks(n: u8) -> u8
-    requires { ⌜ Total n ⌝ }
-    ensures count { λ r. ⌜ r ≡ sum 1 n ⌝ }
-    ensures low { λ r. ⌜ sum 1 n ≤ r × r ≤ sum 1 (n + 1) ⌝ }
-    ensures high { λ r. ⌜ r ≤ sum 1 (n + n) × r ≤ sum 1 (n + n + 1) ⌝ }
+    requires { Total n }
+    ensures count { result ≡ sum 1 n }
+    ensures low { sum 1 n ≤ result × result ≤ sum 1 (n + 1) }
+    ensures high { result ≤ sum 1 (n + n) × result ≤ sum 1 (n + n + 1) }
 {
     n + 1
 }
 
+fn asks_little(n: u8)
+    requires { sum 1 n ≤ 9 }
+{
+}
+
+fn both(n: u8) -> u8
+    ensures low { sum 1 n ≤ result }
+    ensures high { result ≤ sum 1 n }
+{
+    n + 1
+}
+
+pub extern \"C\" fn exported(
+    n: u8,
+) -> u8
+    ensures { others.Total result.field }
+{
+    n
+}
+
 fn twice(n: u8) -> u8
-    ensures { λ r. ⌜ r ≡ sum n n ⌝ }
+    ensures { result ≡ sum n n }
 {
     n + n
 }
@@ -80,9 +105,7 @@ fn made_up(path: &str) -> Option<String> {
         "one/specs/Lib.antt" | "two/specs/Lib.antt" => "pub mod Sums",
         "one/proofs/Lib.antt" => "mod Laws\n-- mod Unnamed",
         "one/src/lib.rt" | "one/src/adding.rt" => CODE,
-        "one/proofs/Adder/add/Proof.antt" | "one/proofs/adding/add/Proof.antt" => "",
-        "one/proofs/asks/Proof.antt" | "one/proofs/bare/Proof.antt" => "",
-        "one/proofs/twice/Proof.antt" | "one/proofs/gone/add/Proof.antt" => "",
+        "one/src/alone.rt" | "one/src/unnamed.rt" => CODE,
         _ => return None,
     };
     Some(text.into())
@@ -112,9 +135,11 @@ fn rows_that_hold_are_taken() {
 | `one/specs/Sums`: `sum` | `one/proofs/Laws`: `sum-zero : {m : ℕ} (h : m ≡ 0) (n : ℕ) → sum m n ≡ n` | => none
 | `one/specs/Sums`: `sum` | `one/proofs/Laws`: `sum-one : {m : ℕ} (h : m ≡ 0) → sum m 1 ≡ 1` | => none
 | `two/specs/Sums`: `Total` | `one/proofs/Laws`: `of-others : (n : ℕ) → others.Total n` | => none
-| `one/specs/Sums`: `sum` | `one/proofs/Adder/add`: `r ≡ sum 1 n`; `one/proofs/asks` | => none
-| `one/specs/Sums`: `sum` | `one/proofs/adding/add`: `r ≡ sum 1 n` | => none
-| | `one/proofs/Adder/add`: `r ≡ sum 1 n` | => none
+| `one/specs/Sums`: `sum` | `one/src/lib`: `Adder::add : result ≡ sum 1 n`, `asks`; `one/src/alone`: `asks` | => none
+| `one/specs/Sums`: `sum` | `one/src/adding`: `add : result ≡ sum 1 n` | => none
+| `one/specs/Sums`: `sum` | `one/src/lib`: `both : ensures low { sum 1 n ≤ result } ensures high { result ≤ sum 1 n }` | => none
+| `two/specs/Sums`: `Total` | `one/src/lib`: `exported : others.Total result.field` | => none
+| | `one/src/lib`: `Adder::add : result ≡ sum 1 n` | => none
 ",
     );
 }
@@ -130,7 +155,7 @@ fn theorems_that_differ_are_refused() {
 | `one/specs/Sums`: `Total` | `one/proofs/Laws`: `local : Total 0` | => one/proofs/Laws has no theorem local
 | | `one/proofs/Laws`: `Stated : Type 0` | => one/proofs/Laws has no theorem Stated
 | | `one/proofs/Laws`: `long` | => long is `(a b c d e f : ℕ) → Total a → Total b → Total c → Total d → Total e → Total f → Total (a + b + c + d + e + f) → Total (a * b * c * d * e * f)`
-| `one/specs/Sums`: `Total` | `one/proofs/Laws` | => no theorem of one/proofs/Laws
+| `one/specs/Sums`: `Total` | `one/proofs/Laws` | => no name of one/proofs/Laws
 | `one/specs/Sums`: `Total` | `one/proofs/Lost`: `total` | => no file one/proofs/Lost
 | `one/specs/Sums`: `Total` | `one/proofs/Unnamed`: `total` | => one/proofs/Unnamed is not checked
 | `one/specs/Sums`: `Total` | `one/specs/Sums`: `Total` | => one/specs/Sums is no proof
@@ -145,14 +170,19 @@ fn theorems_that_differ_are_refused() {
 fn contracts_that_differ_are_refused() {
     try_all(
         "
-| `one/specs/Sums`: `sum` | `one/proofs/Adder/add`: `r ≡ sum n 1` | => one/proofs/Adder/add is `r ≡ sum 1 n`
-| `one/specs/Sums`: `sum` | `one/proofs/Adder/add` | => one/proofs/Adder/add is `r ≡ sum 1 n`
-| `one/specs/Sums`: `Total` | `one/proofs/asks` | => one/proofs/asks does not mention Total
-| `one/specs/Sums`: `sum` | `one/proofs/asks`: `a`, `b` | => one/proofs/asks is one statement
-| `one/specs/Sums`: `sum` | `one/proofs/bare` | => one/src/lib.rt has no one contract of bare
-| `one/specs/Sums`: `sum` | `one/proofs/twice` | => one/src/lib.rt has no one contract of twice
-| `one/specs/Sums`: `sum` | `one/proofs/gone/add` | => no file one/src/gone.rt
-| `one/specs/Sums`: `sum` | `one/proofs/lost` | => no file one/proofs/lost
+| `one/specs/Sums`: `sum` | `one/src/lib`: `Adder::add : result ≡ sum n 1` | => Adder::add is `result ≡ sum 1 n`
+| `one/specs/Sums`: `sum` | `one/src/lib`: `Adder::add` | => Adder::add is `result ≡ sum 1 n`
+| `one/specs/Sums`: `sum` | `one/src/lib`: `both : sum 1 n ≤ result` | => both is `ensures low { sum 1 n ≤ result } ensures high { result ≤ sum 1 n }`
+| `one/specs/Sums`: `Total` | `one/src/lib`: `asks` | => asks does not mention Total
+| `one/specs/Sums`: `Total` | `one/src/lib`: `exported : others.Total result.field` | => exported does not mention Total
+| `one/specs/Sums`: `sum` | `one/src/lib`: `asks`, `lost` | => one/src/lib has no one contract of lost
+| `one/specs/Sums`: `sum` | `one/src/lib`: `bare` | => one/src/lib has no one contract of bare
+| `one/specs/Sums`: `sum` | `one/src/lib`: `asks_little` | => one/src/lib has no one contract of asks_little
+| `one/specs/Sums`: `sum` | `one/src/lib`: `twice` | => one/src/lib has no one contract of twice
+| `one/specs/Sums`: `sum` | `one/src/lib`: `Total::add : result ≡ sum 1 n` | => one/src/lib has no impl of Total::add
+| `one/specs/Sums`: `sum` | `one/src/lib` | => no name of one/src/lib
+| `one/specs/Sums`: `sum` | `one/src/unnamed`: `asks` | => one/src/unnamed is not checked
+| `one/specs/Sums`: `sum` | `one/src/gone`: `add` | => no file one/src/gone
 ",
     );
 }

@@ -108,6 +108,7 @@ fn run_after(run: u8, good: bool) -> u8
 }
 
 // The stage after a sample, from the run after it, and the event.
+#[tactic(auto, unfolding(crate::specs::Rules::next_of, crate::specs::Ranges::is_stage))]
 fn next_of(stage: Stage, run: u8, d: Decision) -> Next
     requires { is_stage stage ≡ true }
     ensures { result ≡ next_of stage run d }
@@ -174,6 +175,7 @@ pub fn take(slot: u8, byte: u8, d: Decision) -> Next
 }
 
 // Run and stage are in their ranges.
+#[tactic(auto, unfolding(crate::specs::Ranges::is_control))]
 pub fn is_control(control: Control) -> bool
     ensures { result ≡ is_control control }
 {

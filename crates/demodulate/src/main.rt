@@ -1,22 +1,20 @@
 // Prints the events of the sheet on standard input, one to a line.
 #![tactic(auto)]
 
-use libc::{STDIN_FILENO, STDOUT_FILENO};
-
-fn main() {
+fn main(rt: HostRuntime) {
     // What is behind these bytes changes nothing that is printed: `CutInput` of `demodulator`.
     let mut text = [0u8; demodulator::MOST_INPUT];
-    let read = streams::read_all(STDIN_FILENO, &mut text);
-    // A program has no exit status, so a failure is told on standard error alone.
-    if !read.whole {
-        os::fail(b"demodulate: standard input");
+    let read = streams::read_all(&rt, &mut rt.stdin(), &mut text);
+    // A failure is told on standard error alone; the exit status is 0 then too.
+    if let Some(error) = &read.error {
+        streams::fail(&rt, "demodulate: standard input", error);
         return;
     }
     let n = read.count;
     let mut out = [0u8; demodulator::MOST_PRINTED];
     let len = demodulator::demodulate(&text[..n], &mut out);
-    let written = streams::write_all(STDOUT_FILENO, &out[..len]);
-    if !written.whole {
-        os::fail(b"demodulate: standard output");
+    let written = streams::write_all(&rt, &mut rt.stdout(), &out[..len]);
+    if let Some(error) = &written.error {
+        streams::fail(&rt, "demodulate: standard output", error);
     }
 }

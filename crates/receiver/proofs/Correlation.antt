@@ -35,10 +35,10 @@ module _ {xs ws : List ℤ} {j : ℕ} {sum : ℤ} (s : Summing xs ws j sum) (win
 
     -- a read of each, as the code has it
     x16 : to_z w16 (of_z w16 x) ≡ x
-    x16 = to_z-of_z (fits_size ((samples_bound xs window.samples).at j) tt)
+    x16 = to_z-of_z {w = w16} (fits_size ((samples_bound xs window.samples).at j) tt)
 
     y16 : to_z w16 (of_z w16 y) ≡ y
-    y16 = to_z-of_z (fits_size (weights.small.at j) tt)
+    y16 = to_z-of_z {w = w16} (fits_size (weights.small.at j) tt)
 
     -- what one more product asks
     pub summing_asks : (nat_abs sum ≤ 1523526000) × ((nat_abs (to_z w16 (of_z w16 x)) ≤ 8191) × (nat_abs (to_z w16 (of_z w16 y)) ≤ 6000))

@@ -8,20 +8,25 @@ use Prim.Native.Nat.{ℕ, ◌+◌, ◌-◌, ◌*◌, ◌<◌, ◌≤◌}
 use native.Mathlib.Nat.{zero-add, add-zero}
 use native.Mathlib.Numerals.{add-one}
 use native.Mathlib.Omega.{arith}
-use borrow.Author.Tests.{ltb-true}
+use borrow.Author.Tests.{ltb-true, lt-ltb, ne_eqb}
 use lib.Dec.{ltb, eqb}
 use lib.IntN.{ℤ}
 use lib.ListN.{length, get_or, drop, length-append, drop_of_length-le}
 use lib.Seq.{sets, drop-cons}
 use Rattle.integers.proofs.Tests.{cond-split, cond_case}
+use Rattle.calls.specs.Refusals.{first_of}
+use Rattle.calls.specs.Outcome.{refused}
 use Rattle.calls.specs.Runs.{after, gives}
+use Rattle.calls.proofs.Refusals.{is-refused}
 use Rattle.calls.proofs.Filling.{Filling, filling_start, filling_more, filling_end}
 use Rattle.tones.specs.Samples.{are_between, are_samples}
 use Rattle.tones.proofs.Samples.{samples_append}
 use Rattle.digits.specs.Numbers.{is_digit}
 use Rattle.digits.proofs.Numbers.{digit-high}
 use Rattle.sheet.specs.Parse.{next, sample_of, sample_at, line_after, samples_in, samples_of}
+use Rattle.sheet.specs.Calls.{read_tests, read_of}
 use Rattle.sheet.specs.declared.Line.{Line}
+use Rattle.sheet.specs.Calls.{read_tests, read_of}
 use Rattle.sheet.specs.declared.Line.TheVariants.{Start, Minus, Zero, Number, Bad}
 use Rattle.sheet_reader.specs.AsCoded.{Small, seen_next, seen_of}
 use Rattle.sheet_reader.specs.declared.reader.Seen.{Seen}
@@ -43,6 +48,11 @@ small-next (Number m n) b =
     (λ d. omega (arith, digit-high b (and_elim_left (is_digit b) (ltb n 1000) d), ltb-true n 1000 (and_elim_right (is_digit b) (ltb n 1000) d)))
     (λ d. tt))
 small-next Bad b = tt
+
+-- a digit more of a number
+pub number_next : (m : Bool) (n b : ℕ) → (b ≡ 10 → ⊥) → is_digit b ≡ true → n < 1000 → Number m (n * 10 + (b - 48)) ≡ next (Number m n) b
+unfolding next
+number_next m n b f d h = rw (ne_eqb b 10 f, d, lt-ltb n 1000 h)
 
 sample-few : (line : Line) (b : ℕ) → length (sample_at line b) ≤ 1
 sample-few line b = cond_case (λ (zs : List ℤ). length zs ≤ 1) (eqb b 10) (sample_of line ∷ []) [] (omega arith) (omega arith)
@@ -150,3 +160,10 @@ module _ (t : List ℕ) (lent now : List ℤ) (line : Line) (count i : ℕ) (p :
 
   pub filled_all : length t ≤ i → (count ≡ length (samples_of t)) × (now ≡ sets lent 0 (samples_of t))
   filled_all h = (omega (arith, ap length (samples_end t i line h), p.counted), filling_end (rw (samples_end t i line h) at p.filling))
+
+-- ---- a refusal
+
+pub is_refused : (text : List ℕ) (lent : List ℤ) (n : ℕ) → n ≡ first_of (read_tests text (length lent)) → (n ≡ 0 → ⊥)
+    → refused n 0 lent ≡ read_of text lent
+unfolding read_of
+is_refused text lent n e h = is-refused (read_tests text (length lent)) 0 lent _ n e h

@@ -18,6 +18,7 @@ pub struct Parsed {
 }
 
 // Reads a sheet. Its samples go to the buffer's front.
+#[tactic(auto, using(crate::proofs::Passes::is_refused))]
 pub fn read(text: &[u8], out: &mut [i16]) -> Parsed
     ensures { outcome result.answer result.band out.new ≡ read_of text.now out.old }
 {

@@ -60,6 +60,7 @@ fn after_zero(byte: u8) -> Line
 }
 
 // A number of 1,000 or more has four digits and takes no further one.
+#[tactic(auto, using(crate::proofs::Passes::number_next))]
 fn in_number(negative: bool, size: u16, byte: u8) -> Line
     ensures { result ≡ next (Number negative size) byte }
 {

@@ -16,9 +16,13 @@ use mir.Facts.{to_z-of_z}
 use mir.Syntax.{w16}
 use mir.Val.{SFits, to_z, of_z}
 use Rattle.integers.proofs.Lists.{sets_append, sets-front}
+use Rattle.calls.specs.Outcome.{refused}
+use Rattle.calls.specs.Refusals.{first_of}
+use Rattle.calls.proofs.Refusals.{is-refused}
 use Rattle.calls.proofs.Filling.{Filling, filling_more, filling_end}
 use Rattle.digits.specs.Numbers.{decimal}
 use Rattle.sheet.specs.Text.{line_of, lines_of, head_of, sheet_of}
+use Rattle.sheet.specs.Calls.{write_tests, write_of}
 
 -- ---- one line
 
@@ -91,3 +95,10 @@ pub sheet_filled : (band : ℕ) (zs : List ℤ) (lent : List ℕ) → length (sh
     → sets (sets lent 0 (head_of (48 + band))) 14 (lines_of zs) ≡ sheet_of band zs ++ drop (length (sheet_of band zs)) lent
 unfolding sheet_of head_of
 sheet_filled band zs lent h = sym (sets_append lent 0 (head_of (48 + band)) (lines_of zs)) ∙ sets-front (sheet_of band zs) lent h
+
+-- ---- a refusal
+
+pub is_refused : (band : ℕ) (zs : List ℤ) (lent : List ℕ) (n : ℕ) → n ≡ first_of (write_tests band zs (length lent)) → (n ≡ 0 → ⊥)
+    → refused n tt lent ≡ write_of band zs lent
+unfolding write_of
+is_refused band zs lent n e h = is-refused (write_tests band zs (length lent)) tt lent _ n e h

@@ -10,6 +10,7 @@ mod writer;
 use calls::Answer;
 
 // Writes the sheet of a band and samples to the buffer's front.
+#[tactic(auto, using(crate::proofs::Writing::is_refused))]
 pub fn write(band: u8, samples: &[i16], out: &mut [u8]) -> Answer
     ensures { outcome result tt out.new ≡ write_of band samples.now out.old }
 {

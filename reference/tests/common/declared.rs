@@ -1,6 +1,6 @@
 //! What the files of a crate say: the declarations of an `.antt` file, how it
 //! writes those of another, and the contracts of an `.rt` file. All are read as
-//! `rt fmt` leaves them, which the gate asks for first.
+//! `rt fmt` leaves them, which the gate asks for.
 
 pub struct Declared {
     pub name: String,
@@ -70,28 +70,23 @@ fn declared(item: &str, parameters: &str) -> Option<Declared> {
     })
 }
 
-/// One of the lines of the root of a folder makes a module of the file.
-pub fn names_module(root: &str, name: &str) -> bool {
-    let mut lines = root.lines();
-    lines.any(|line| line.trim_start_matches("pub ").strip_prefix("mod ") == Some(name))
+/// One of the lines of a root makes a module of the file: `end` is `;` in code.
+pub fn names_module(root: &str, name: &str, end: &str) -> bool {
+    let mut lines = root.lines().map(|line| line.trim_start_matches("pub "));
+    lines.any(|line| line.strip_prefix("mod ") == Some(&format!("{name}{end}")))
 }
 
-/// How a file may write what `place` declares under the name: a crate calls its
-/// own files `calls·specs.specs.Lists`, and others call them `calls.specs.Lists`.
+/// How a file may write what `place` declares under the name.
 pub fn spellings(text: &str, place: &str, name: &str) -> Vec<String> {
-    let is_place = |path: &str| {
-        let (first, rest) = path.split_once('.').unwrap_or((path, ""));
-        let first = first.split('·').next().expect("a part");
-        format!("{first}/{}", rest.replace('.', "/")) == place
-    };
+    let is_place = |path: &str| path.replace('.', "/") == place;
     let spelling = |line: &str| {
         let line = line.strip_prefix("ghost ").unwrap_or(line);
-        let used = line.strip_prefix("use Rattle·")?;
+        let used = line.strip_prefix("use Rattle.")?;
         if let Some((path, names)) = used.split_once(".{") {
             let mut names = names.trim_end_matches(['}', ';']).split(", ");
             return (is_place(path) && names.any(|found| found == name)).then(|| name.into());
         }
-        let (path, other) = used.split_once(" as ")?;
+        let (path, other) = used.trim_end_matches(';').split_once(" as ")?;
         is_place(path).then(|| format!("{other}.{name}"))
     };
     text.lines().filter_map(spelling).collect()

@@ -1,0 +1,25 @@
+-- `receiver::scan::put_event` meets its contract.
+-- Assumes nothing.
+use mathlib.Core.Path.{refl, ap}
+use native.Mathlib.Omega.{arith}
+use lib.ListN.{length}
+use mir.Facts.{to_z-of_z}
+use mir.Syntax.{w64}
+use Rattle.control.specs.declared.Event.{Event}
+use Rattle.control.specs.Rules.{numbers}
+use Rattle.receiver.proofs.scan.put_event.Goals as goal
+
+pub bounds-events-at : goal.bounds-events-at
+bounds-events-at c =
+    omega (arith, c.requires.0, ap (λ (e : Event). length (numbers e)) c.in-Number.is)
+
+pub bounds-differences-at : goal.bounds-differences-at
+bounds-differences-at c =
+    omega (arith, c.requires.1, ap (λ (e : Event). length (numbers e)) c.in-Number.is)
+
+pub returns-in-Nothing : goal.returns-in-Nothing
+returns-in-Nothing c = rw c.in-Nothing.is (record { count = omega arith; lent = refl; noted = refl; told = refl })
+
+pub returns-in-Number : goal.returns-in-Number
+returns-in-Number c =
+    rw (c.in-Number.is, to_z-of_z {w = w64} c.ranges.difference) (record { count = refl; lent = refl; noted = refl; told = c.put_index.ensures })
