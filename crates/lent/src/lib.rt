@@ -24,8 +24,7 @@ pub fn block(
     reading.answer
 }
 
-// The call on the state that was copied out. It has no reference to a struct, so its proof is found as any other is, and a wrong call is
-// refused for what it gives.
+// The call on the state that was copied out: a wrong call is refused for what it gives.
 fn called(
     receiver: Receiver,
     samples: &[i16],
