@@ -9,7 +9,6 @@ use lib.IntN.{ℤ, pos}
 use lib.ListN.{take, drop}
 use Rattle.integers.specs.Near.{Near}
 use Rattle.integers.proofs.Near.{near_self}
-use Rattle.calls.specs.Lists as lists
 use Rattle.calls.specs.Runs.{after, gives}
 use Rattle.calls.proofs.Runs.{run_laws}
 use Rattle.sine.specs.Sine.{S}

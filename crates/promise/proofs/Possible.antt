@@ -35,7 +35,7 @@ use Rattle.receiver.proofs.Ranges as receiver-ranges
 use Rattle.receiver.proofs.Calls.{block_0}
 use Rattle.receiver.proofs.Lists.{one_reading}
 use Rattle.margin.specs.Windows.{disturbance}
-use Rattle.promise.specs.Recordings.{AreBytes, bytes_of, characters_sent, EndsSending, IsSending, trailer, text, leader, silence, Recording, characters}
+use Rattle.promise.specs.Recordings.{AreBytes, bytes_of, characters_sent, EndsSending, IsSending, trailer, text, leader, silence, Recording}
 use Rattle.promise.specs.Possible.{Block, ending_calls, sending_calls, block_calls, IsText, NotVacuous}
 use Rattle.promise.proofs.Promise.{recording_near}
 

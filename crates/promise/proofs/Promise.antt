@@ -30,7 +30,6 @@ use Rattle.receiver.proofs.Lists.{one_reading}
 use Rattle.receiver.proofs.Windows.{decisions_over, by_windows}
 use Rattle.margin.specs.Windows.{disturbance, clearance, Margins}
 use Rattle.margin.proofs.Bands.{margins, clear_margins}
-use Rattle.promise.specs.Recordings as recordings
 use Rattle.promise.specs.Recordings.{AreBytes, bytes_of, characters_sent, EndsSending, IsSending, trailer, text, leader, silence, Recording, Transmission, characters, events}
 use Rattle.promise.specs.ReadAsSent.{ReadAsSent}
 use Rattle.promise.proofs.Windows.{decisions-map}

@@ -34,16 +34,14 @@ bounds-quarter-places c = omega (arith, c.requires.in_quarter.0.at c.loop-j.j)
 
 pub bounds-out-j : goal.bounds-out-j
 bounds-out-j c =
-    let t = c.before.before.before in
-    omega (arith, t.loop-j.invariant.1.long, t.requires.in_quarter.1)
+    omega (arith, c.loop-j.invariant.1.long, c.requires.in_quarter.1)
 
 pub loop-j-preserved : goal.loop-j-preserved
 loop-j-preserved c =
     let l = c.loop-j in
-    let s = c.before.before.before.before in
-    let places = s.args.places.now in (
+    let places = c.args.places.now in (
       omega arith,
-      mapped_next S places l.j 0 (pos 0) _ (omega arith) (read s.args.quarter.now _ s.requires.holds_quarter (s.requires.in_quarter.0.at l.j)) l.invariant.1,
+      mapped_next S places l.j 0 (pos 0) _ (omega arith) (read c.args.quarter.now _ c.requires.holds_quarter (c.requires.in_quarter.0.at l.j)) l.invariant.1,
     )
 
 pub shape_of-out : goal.shape_of-out
@@ -52,6 +50,5 @@ shape_of-out c = c.loop-j.invariant.1.long
 pub returns : goal.returns
 returns c =
     let l = c.loop-j in
-    let s = c.before.before in
-    let places = s.args.places.now in
-    mapped_end S places l.j (omega arith) l.invariant.1 ∙ sets-whole (map S places) s.args.out.now (length-map places S ∙ s.requires.in_quarter.1)
+    let places = c.args.places.now in
+    mapped_end S places l.j (omega arith) l.invariant.1 ∙ sets-whole (map S places) c.args.out.now (length-map places S ∙ c.requires.in_quarter.1)

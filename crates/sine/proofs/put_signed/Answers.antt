@@ -7,6 +7,7 @@ use lib.IntN.{pos}
 use lib.ListN.{length, get_or, drop_of_length-le}
 use mir.Syntax.{w16}
 use mir.Facts.{to_z-of_z}
+use Rattle.integers.proofs.Size.{fits_size}
 use Rattle.integers.proofs.Lists.{sets-whole}
 use Rattle.calls.proofs.Filling.{filling_start, filling_next, filling_end}
 use Rattle.sine.specs.Fold.{times}
@@ -18,33 +19,27 @@ loop-j-init c = (omega arith, filling_start c.args.out.now 0 (times c.args.found
 
 pub bounds-signs-j : goal.bounds-signs-j
 bounds-signs-j c =
-    let s = c.before.before.before in
-    omega (arith, s.requires.bounded.1, s.requires.bounded_2.1)
+    omega (arith, c.requires.bounded.1, c.requires.bounded_2.1)
 
 pub signed-requires : goal.signed-requires
 signed-requires c =
-    let t = c.before.before.before in
-    let j = t.loop-j.j in
-    let s = t.before in (
-      rw (to_z-of_z {w = w16} (sfits_of c.signed-arg-1.given)) (s.requires.bounded.0.at j),
-      rw (to_z-of_z {w = w16} (sfits_of c.signed-arg-in-loop-j-1.given)) (s.requires.bounded_2.0.at j),
-    )
+    let number = c.requires.bounded.0.at c.loop-j.j in
+    let sign = c.requires.bounded_2.0.at c.loop-j.j in
+    (rw (to_z-of_z {w = w16} (fits_size number tt)) number, rw (to_z-of_z {w = w16} (fits_size sign tt)) sign)
 
 pub bounds-out-j : goal.bounds-out-j
 bounds-out-j c =
-    let t = c.before.before.before.before in
-    omega (arith, t.loop-j.invariant.1.long, t.requires.bounded.1)
+    omega (arith, c.loop-j.invariant.1.long, c.requires.bounded.1)
 
 pub loop-j-preserved : goal.loop-j-preserved
 loop-j-preserved c =
-    let t = c.before.before.before.before in
-    let l = t.loop-j in
-    let a = t.args in
+    let l = c.loop-j in
+    let a = c.args in
     let found = a.found.now in
     let signs = a.signs.now in
-    let n : length (times found signs) ≡ length found = length-times found signs (omega (arith, t.requires.bounded.1, t.requires.bounded_2.1)) in
-    let number = to_z-of_z {w = w16} {z = get_or found l.j (pos 0)} (sfits_of c.signed-arg-1.given) in
-    let sign = to_z-of_z {w = w16} {z = get_or signs l.j (pos 0)} (sfits_of c.signed-arg-in-loop-j-1.given) in
+    let n : length (times found signs) ≡ length found = length-times found signs (omega (arith, c.requires.bounded.1, c.requires.bounded_2.1)) in
+    let number = to_z-of_z {w = w16} {z = get_or found l.j (pos 0)} (fits_size (c.requires.bounded.0.at l.j) tt) in
+    let sign = to_z-of_z {w = w16} {z = get_or signs l.j (pos 0)} (fits_size (c.requires.bounded_2.0.at l.j) tt) in
     let product = to_z-of_z {w = w16} (sfits_of c.signed.type_inv) ∙ rw (number, sign) at c.signed.ensures ∙ times-at found signs l.j in (
       omega arith,
       filling_next (times found signs) l.j (pos 0) _ (omega arith) product l.invariant.1,
@@ -56,7 +51,6 @@ shape_of-out c = c.loop-j.invariant.1.long
 pub returns : goal.returns
 returns c =
     let l = c.loop-j in
-    let s = c.before.before in
-    let made = times s.args.found.now s.args.signs.now in
-    let n : length made ≡ length s.args.found.now = length-times s.args.found.now s.args.signs.now (omega (arith, s.requires.bounded.1, s.requires.bounded_2.1)) in
-    filling_end (rw (drop_of_length-le made {i = l.j} (omega arith)) at l.invariant.1) ∙ sets-whole made s.args.out.now (n ∙ s.requires.bounded.1)
+    let made = times c.args.found.now c.args.signs.now in
+    let n : length made ≡ length c.args.found.now = length-times c.args.found.now c.args.signs.now (omega (arith, c.requires.bounded.1, c.requires.bounded_2.1)) in
+    filling_end (rw (drop_of_length-le made {i = l.j} (omega arith)) at l.invariant.1) ∙ sets-whole made c.args.out.now (n ∙ c.requires.bounded.1)

@@ -27,21 +27,19 @@ turned s p h = whole sign_of (replicate 32 (pos 0)) s p refl h
 
 pub look_up-requires : goal.look_up-requires
 look_up-requires c =
-    let ps = phases 32 c.args.step c.args.phase in
-    let places = placed c.args.step c.args.phase c.put_folded.ensures.places in
+    let places = placed _ _ c.put_folded.ensures.places in
     record {
       holds_quarter = c.quarter.ensures;
-      in_quarter = (rw places (in_quarter ps), rw places (length-map ps place_of ∙ length-phases 32 _ _));
+      in_quarter = (rw places (in_quarter _), rw places (length-map _ place_of ∙ length-phases 32 _ _));
     }
 
 pub put_signed-requires : goal.put_signed-requires
 put_signed-requires c =
-    let ps = phases 32 c.args.step c.args.phase in
-    let found = c.look_up.ensures ∙ ap (map S) (placed c.args.step c.args.phase c.put_folded.ensures.places) in
-    let signs = turned c.args.step c.args.phase c.put_folded.ensures.signs in
+    let found = c.look_up.ensures ∙ ap (map S) (placed _ _ c.put_folded.ensures.places) in
+    let signs = turned _ _ c.put_folded.ensures.signs in
     record {
-      bounded = (rw found (sines_bound (map place_of ps)), rw found (length-map (map place_of ps) S ∙ length-map ps place_of ∙ length-phases 32 _ _));
-      bounded_2 = (rw signs (signs_bound ps), rw signs (length-map ps sign_of ∙ length-phases 32 _ _));
+      bounded = (rw found (sines_bound (map place_of _)), rw found (length-map (map place_of _) S ∙ length-map _ place_of ∙ length-phases 32 _ _));
+      bounded_2 = (rw signs (signs_bound _), rw signs (length-map _ sign_of ∙ length-phases 32 _ _));
     }
 
 pub returns : goal.returns

@@ -35,19 +35,16 @@ overflow_add-first c = sum_fits _ _ _ (omega arith) (omega arith) (omega arith)
 
 pub bounds-places-k : goal.bounds-places-k
 bounds-places-k c =
-    let t = c.before.before.before in
-    omega (arith, t.loop-j.invariant.1.0.long, t.requires)
+    omega (arith, c.loop-j.invariant.1.0.long, c.requires)
 
 pub bounds-signs-k : goal.bounds-signs-k
 bounds-signs-k c =
-    let t = c.before.before.before in
-    omega (arith, t.loop-j.invariant.1.1.long, t.requires.1)
+    omega (arith, c.loop-j.invariant.1.1.long, c.requires.1)
 
 pub loop-j-preserved : goal.loop-j-preserved
 loop-j-preserved c =
-    let t = c.before.before.before in
-    let l = t.loop-j in
-    let a = t.args in
+    let l = c.loop-j in
+    let a = c.args in
     let ps = phases 32 a.step a.phase in
     let at = phases-at 32 a.step a.phase l.j (omega arith) in
     let same = reached a.step a.phase l.j in
