@@ -5,7 +5,6 @@ use mathlib.Core.Bool.{true}
 use mathlib.Core.List.{List, ◌++◌, map}
 use Prim.Native.Nat.{ℕ, ◌-◌}
 use native.Mathlib.Omega.{arith}
-use borrow.Author.Rules.{rules}
 use lib.IntN.{ℤ}
 use lib.ListN.{length, take, drop, length-append, length-map}
 use lib.Seq.{sets, take_at, drop_at}
@@ -32,13 +31,12 @@ use Rattle.promise.specs.Recordings.{AreBytes}
 use Rattle.promise.proofs.Message.{are_bytes, message-range, message-read}
 use Rattle.loopback.specs.Loopback.{lists, recorded_of, differences_of, loopback_tests}
 use Rattle.loopback.proofs.Refusals.{Allowed, allowed, loopback_refused, loopback_accepted}
-use Rattle.loopback.proofs.loopback.Statement.{statement}
-use Rattle.loopback.proofs.loopback.Tie as tie
+use Rattle.loopback.proofs.loopback.Goals as goal
+use Rattle.loopback.proofs.loopback.Goals.{After-disturb, After-send-sent, Else-number-ne0, Start}
 
 -- ---- nothing is refused
-
-module _ (c : tie.Else1) where
-  abbrev start : tie.Start
+module _ (c : Else-number-ne0) where
+  abbrev start : Start
   start = c.before.before.before.before
 
   abbrev band : ℕ
@@ -60,13 +58,13 @@ module _ (c : tie.Else1) where
   recorded = recorded_of band cs ds
 
   none : first_of (loopback_tests band (length cs) ds start.args.size (length samples) (length start.args.events.now) (length start.args.differences.now)) ≡ 0
-  none = sym c.before.refusal.ensures ∙ c.if1.false
+  none = sym c.refusal-number.ensures ∙ c.if-number-ne0.false
 
   all-allowed : Allowed band (length cs) ds start.args.size (length samples) (length start.args.events.now) (length start.args.differences.now)
   all-allowed = allowed _ _ _ _ _ _ _ none
 
   bytes : AreBytes cs
-  bytes = are_bytes cs (λ i. omega (arith, c.before.before.before.shared-slice-known.given i))
+  bytes = are_bytes cs (λ i. omega (arith, c.shared_slice_known-1.given i))
 
   small : Bounded disturbance ds
   small = between_bound (disturbance - 1) ds all-allowed.small
@@ -82,18 +80,17 @@ module _ (c : tie.Else1) where
   many = sym (length-map (measured_after (fresh band) recorded) (λ (e : ℕ × ℤ). e.0)) ∙ ap length promised
 
 -- ---- the message is at the buffer's front
-
-module _ (c : tie.After-send) where
-  abbrev else : tie.Else1
+module _ (c : After-send-sent) where
+  abbrev else : Else-number-ne0
   else = c.before.before
 
   abbrev sent : Outcome Unit (List ℤ)
-  sent = outcome c.send.result tt c.send.new.1.1.0
+  sent = outcome c.send-sent.result tt c.send-sent.new.1.1.0
 
   given : sent ≡ accepted tt (message else) (samples else)
   given =
       let a = all-allowed else in
-      c.send.ensures ∙ send_0 (band else) (cs else) (samples else) (record { known = a.known; few = a.sizes.few; room = a.room.places })
+      c.send-sent.ensures ∙ send_0 (band else) (cs else) (samples else) (record { known = a.known; few = a.sizes.few; room = a.room.places })
 
   counted : sent.count ≡ length (message else)
   counted = given-count tt (message else) (samples else) sent given
@@ -107,16 +104,15 @@ module _ (c : tie.After-send) where
       ∙ drop_at (message else) (drop (length (message else)) (samples else)) sent.count (sym counted)
 
 -- ---- and then the recording
-
-module _ (c : tie.After-disturb) where
-  abbrev called : tie.After-send
+module _ (c : After-disturb) where
+  abbrev called : After-send-sent
   called = c.before.before.before
 
-  abbrev taken : tie.Else1
+  abbrev taken : Else-number-ne0
   taken = else called
 
   abbrev left : List ℤ
-  left = c.disturb.new.0 ++ drop (sent called).count (sent called).lent
+  left = c.disturb.new.samples ++ drop (sent called).count (sent called).lent
 
   long : length (recorded taken) ≡ (sent called).count
   long = length-altered (message taken) (ds taken) ∙ sym (counted called)
@@ -129,67 +125,50 @@ module _ (c : tie.After-disturb) where
   read-part : take (sent called).count left ≡ recorded taken
   read-part = ap (take (sent called).count) filled ∙ take_at (recorded taken) (drop (length (recorded taken)) (samples taken)) (sent called).count long
 
--- ---- what is asked and left
-
-refusal-requires : tie.Need-refusal-requires
-refusal-requires c κs = tt
-
-returns : tie.Need-returns
-returns c =
-    let a = c.before.before.before.before.args in
+pub returns-then-number-ne0 : goal.returns-then-number-ne0
+returns-then-number-ne0 c =
+    let a = c.args in
     loopback_refused a.band a.characters.now a.disturbance.now a.size (lists a.samples.now a.events.now a.differences.now)
-    c.before.refusal.result c.before.refusal.ensures c.if1.true
+    c.refusal-number.result c.refusal-number.ensures c.if-number-ne0.true
 
-send-requires : tie.Need-send-requires
-send-requires c κs = tt
-
-slice-relend-prefix-disturb : tie.Need-slice-relend-prefix-disturb
-slice-relend-prefix-disturb c =
+pub slice_bounds-disturb-end : goal.slice_bounds-disturb-end
+slice_bounds-disturb-end c =
     let s = c.before in
     given_room tt (message (else s)) (samples (else s)) (sent s) (given s)
 
-slice-aggregate-disturb : tie.Need-slice-aggregate-disturb
-slice-aggregate-disturb c =
+pub slice_bounds-disturb-end-2 : goal.slice_bounds-disturb-end-2
+slice_bounds-disturb-end-2 c =
     let s = c.before.before in
     given_part tt (message (else s)) (samples (else s)) (sent s) (given s)
 
-disturb-requires : tie.Need-disturb-requires
-disturb-requires c κs =
+pub disturb-requires : goal.disturb-requires
+disturb-requires c =
     let s = c.before.before in
     let e = else s in
     rw (front s)
     (send_bound 0 (bit_steps (tones_of (band e)) (message_bits (cs e))), (small e, omega (arith, length-samples (band e) (cs e), (all-allowed e).room.numbers)))
 
-slice-reshare-prefix-receive : tie.Need-slice-reshare-prefix-receive
-slice-reshare-prefix-receive c =
+pub slice_bounds-receive-end : goal.slice_bounds-receive-end
+slice_bounds-receive-end c =
     let d = c.before in
     omega (arith, ap length (filled d), length-append (recorded (taken d)) (drop (length (recorded (taken d))) (samples (taken d))), long d)
 
-slice-aggregate-receive : tie.Need-slice-aggregate-receive
-slice-aggregate-receive c = let d = c.before.before in sym (ap length (read-part d) ∙ long d)
+pub slice_bounds-receive-end-2 : goal.slice_bounds-receive-end-2
+slice_bounds-receive-end-2 c = let d = c.before.before in sym (ap length (read-part d) ∙ long d)
 
-receive-requires : tie.Need-receive-requires
-receive-requires c κs =
+pub receive-count-requires : goal.receive-count-requires
+receive-count-requires c =
     let d = c.before.before.before.before in
     let e = taken d in
     let a = all-allowed e in
     rw (read-part d, many e) (a.known, (range e, ((a.sizes.low, a.sizes.high), (a.room.free, a.room.beside))))
 
-same_length : tie.Need-same-length
-same_length c = search rules
-
-same-length-2 : tie.Need-same-length-2
-same-length-2 c = search rules
-
-same-length-3 : tie.Need-same-length-3
-same-length-3 c = search rules
-
-returns-2 : tie.Need-returns-2
-returns-2 c =
+pub returns : goal.returns
+returns c =
     let d = c.before.before.before.before.before.before.before.before in
     let e = taken d in
     let a = (start e).args in
-    let p = c.before.before.before.receive.ensures in
+    let p = c.receive-count.ensures in
     let told = measured_after (fresh a.band) (recorded e) in
     let read = ap (measured_after (fresh a.band)) (read-part d) in
     let count = p.0 ∙ ap length read ∙ many e in
@@ -203,21 +182,3 @@ returns-2 c =
     (λ i. record { number = 0; count = count i; state = tt; lent = lists (filled d i) (events i) (differences i) })
     ∙ loopback_accepted a.band a.characters.now a.disturbance.now a.size (lists a.samples.now a.events.now a.differences.now)
     (none e)
-
-pub loopback-spec : {M : Type 1} → statement M
-loopback-spec =
-    tie.close
-    (tie.spec
-    refusal-requires
-    returns
-    send-requires
-    slice-relend-prefix-disturb
-    slice-aggregate-disturb
-    disturb-requires
-    slice-reshare-prefix-receive
-    slice-aggregate-receive
-    receive-requires
-    same_length
-    same-length-2
-    same-length-3
-    returns-2)
