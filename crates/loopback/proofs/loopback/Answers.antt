@@ -3,10 +3,11 @@
 use mathlib.Core.Path.{◌≡◌, sym, ap, ap₂, ◌∙◌}
 use mathlib.Core.Bool.{true}
 use mathlib.Core.List.{List, ◌++◌, map}
-use Prim.Native.Nat.{ℕ, ◌-◌}
+use Prim.Native.Nat.{ℕ, ◌-◌, ◌<◌, ◌≤◌}
 use native.Mathlib.Omega.{arith}
+use borrow.Author.Rules.{rules}
 use lib.IntN.{ℤ}
-use lib.ListN.{length, take, drop, length-append, length-map}
+use lib.ListN.{length, take, drop, get_or, length-append, length-map}
 use lib.Seq.{sets, take_at, drop_at}
 use Rattle.integers.specs.Near.{altered}
 use Rattle.integers.specs.Sums.{Bounded}
@@ -24,106 +25,96 @@ use Rattle.receiver.specs.Step.{measured_after}
 use Rattle.receiver.specs.Calls.{fresh}
 use Rattle.receiver.specs.AsCoded.{numbers_of}
 use Rattle.receiver.proofs.Counting.{measured-numbers}
-use Rattle.message.specs.Message.{message_of}
+use Rattle.message.specs.Message.{message_of, send_of}
 use Rattle.message.proofs.Calls.{length-samples, send_0}
 use Rattle.margin.specs.Windows.{disturbance}
 use Rattle.promise.specs.Recordings.{AreBytes}
 use Rattle.promise.proofs.Message.{are_bytes, message-range, message-read}
-use Rattle.loopback.specs.Loopback.{lists, recorded_of, differences_of, loopback_tests}
+use Rattle.loopback.specs.Loopback.{Lists, lists, recorded_of, differences_of, loopback_tests}
 use Rattle.loopback.proofs.Refusals.{Allowed, allowed, loopback_refused, loopback_accepted}
 use Rattle.loopback.proofs.loopback.Goals as goal
-use Rattle.loopback.proofs.loopback.Goals.{After-disturb, After-send-sent, Else-number-ne0, Start}
 
 -- ---- nothing is refused
-module _ (c : Else-number-ne0) where
-  abbrev start : Start
-  start = c.before.before.before.before
+module _ (band : ℕ) (cs : List ℕ) (ds : List ℤ) (size : ℕ) (lent : Lists) where
+  record Taken : Type 0 where
+    none : first_of (loopback_tests band (length cs) ds size (length lent.samples) (length lent.events) (length lent.differences)) ≡ 0
+    bytes : (i : ℕ) → get_or cs i 0 < 256
 
-  abbrev band : ℕ
-  band = start.args.band
+  module _ (t : Taken) where
+    abbrev message : List ℤ
+    message = message_of band cs
 
-  abbrev cs : List ℕ
-  cs = start.args.characters.now
+    abbrev recorded : List ℤ
+    recorded = recorded_of band cs ds
 
-  abbrev ds : List ℤ
-  ds = start.args.disturbance.now
+    all-allowed : Allowed band (length cs) ds size (length lent.samples) (length lent.events) (length lent.differences)
+    all-allowed = allowed _ _ _ _ _ _ _ t.none
 
-  abbrev samples : List ℤ
-  samples = start.args.samples.now
+    known_bytes : AreBytes cs
+    known_bytes = are_bytes cs t.bytes
 
-  abbrev message : List ℤ
-  message = message_of band cs
+    small : Bounded disturbance ds
+    small = between_bound (disturbance - 1) ds all-allowed.small
 
-  abbrev recorded : List ℤ
-  recorded = recorded_of band cs ds
+    range : are_samples recorded ≡ true
+    range = message-range band all-allowed.known cs known_bytes all-allowed.sizes.few ds small
 
-  none : first_of (loopback_tests band (length cs) ds start.args.size (length samples) (length start.args.events.now) (length start.args.differences.now)) ≡ 0
-  none = sym c.refusal-number.ensures ∙ c.if-number-ne0.false
+    -- the promise
+    promised : numbers_of (measured_after (fresh band) recorded) ≡ cs
+    promised = measured-numbers (fresh band) recorded ∙ message-read band all-allowed.known cs known_bytes all-allowed.sizes.few ds small
 
-  all-allowed : Allowed band (length cs) ds start.args.size (length samples) (length start.args.events.now) (length start.args.differences.now)
-  all-allowed = allowed _ _ _ _ _ _ _ none
+    many : length (measured_after (fresh band) recorded) ≡ length cs
+    many = sym (length-map (measured_after (fresh band) recorded) (λ (e : ℕ × ℤ). e.0)) ∙ ap length promised
 
-  bytes : AreBytes cs
-  bytes = are_bytes cs (λ i. omega (arith, c.shared_slice_known-1.given i))
+    -- ---- the message is at the buffer's front
+    module _ (sent : Outcome Unit (List ℤ)) (e : sent ≡ send_of band cs lent.samples) where
+      given : sent ≡ accepted tt message lent.samples
+      given =
+          let a = all-allowed in
+          e ∙ send_0 band cs lent.samples (record { known = a.known; few = a.sizes.few; room = a.room.places })
 
-  small : Bounded disturbance ds
-  small = between_bound (disturbance - 1) ds all-allowed.small
+      counted : sent.count ≡ length message
+      counted = given-count tt message lent.samples sent given
 
-  range : are_samples recorded ≡ true
-  range = message-range band all-allowed.known cs bytes all-allowed.sizes.few ds small
+      front : take sent.count sent.lent ≡ message
+      front = given-front tt message lent.samples sent given
 
-  -- the promise
-  promised : numbers_of (measured_after (fresh band) recorded) ≡ cs
-  promised = measured-numbers (fresh band) recorded ∙ message-read band all-allowed.known cs bytes all-allowed.sizes.few ds small
+      behind : drop sent.count sent.lent ≡ drop (length message) lent.samples
+      behind =
+          ap (λ (o : Outcome Unit (List ℤ)). drop sent.count o.lent) given
+          ∙ drop_at message (drop (length message) lent.samples) sent.count (sym counted)
 
-  many : length (measured_after (fresh band) recorded) ≡ length cs
-  many = sym (length-map (measured_after (fresh band) recorded) (λ (e : ℕ × ℤ). e.0)) ∙ ap length promised
+      fits : sent.count ≤ length sent.lent
+      fits = given_room tt message lent.samples sent given
 
--- ---- the message is at the buffer's front
-module _ (c : After-send-sent) where
-  abbrev else : Else-number-ne0
-  else = c.before.before
+      part : sent.count ≡ length (take sent.count sent.lent)
+      part = given_part tt message lent.samples sent given
 
-  abbrev sent : Outcome Unit (List ℤ)
-  sent = outcome c.send-sent.result tt c.send-sent.new.1.1.0
+      long : length recorded ≡ sent.count
+      long = length-altered message ds ∙ sym counted
 
-  given : sent ≡ accepted tt (message else) (samples else)
-  given =
-      let a = all-allowed else in
-      c.send-sent.ensures ∙ send_0 (band else) (cs else) (samples else) (record { known = a.known; few = a.sizes.few; room = a.room.places })
+      -- what can be disturbed
+      bounded : Bounded 6000 (take sent.count sent.lent)
+      bounded = rw front (send_bound 0 (bit_steps (tones_of band) (message_bits cs)))
 
-  counted : sent.count ≡ length (message else)
-  counted = given-count tt (message else) (samples else) sent given
+      numbered : length (take sent.count sent.lent) ≤ length ds
+      numbered = rw front (omega (arith, length-samples band cs, all-allowed.room.numbers))
 
-  front : take sent.count sent.lent ≡ message else
-  front = given-front tt (message else) (samples else) sent given
+      -- ---- and then the recording
+      module _ (disturbed : List ℤ) (d : disturbed ≡ altered (take sent.count sent.lent) ds) where
+        abbrev left : List ℤ
+        left = disturbed ++ drop sent.count sent.lent
 
-  behind : drop sent.count sent.lent ≡ drop (length (message else)) (samples else)
-  behind =
-      ap (λ (o : Outcome Unit (List ℤ)). drop sent.count o.lent) given
-      ∙ drop_at (message else) (drop (length (message else)) (samples else)) sent.count (sym counted)
+        filled : left ≡ over recorded lent.samples
+        filled =
+            ap₂ (λ (l r : List ℤ). l ++ r) (d ∙ ap (λ (xs : List ℤ). altered xs ds) front)
+            (behind ∙ ap (λ (n : ℕ). drop n lent.samples) (sym (length-altered message ds)))
 
--- ---- and then the recording
-module _ (c : After-disturb) where
-  abbrev called : After-send-sent
-  called = c.before.before.before
+        fits-still : sent.count ≤ length left
+        fits-still = omega (arith, ap length filled, length-append recorded (drop (length recorded) lent.samples), long)
 
-  abbrev taken : Else-number-ne0
-  taken = else called
-
-  abbrev left : List ℤ
-  left = c.disturb.new.samples ++ drop (sent called).count (sent called).lent
-
-  long : length (recorded taken) ≡ (sent called).count
-  long = length-altered (message taken) (ds taken) ∙ sym (counted called)
-
-  filled : left ≡ over (recorded taken) (samples taken)
-  filled =
-      ap₂ (λ (l r : List ℤ). l ++ r) (c.disturb.ensures ∙ ap (λ (xs : List ℤ). altered xs (ds taken)) (front called))
-      (behind called ∙ ap (λ (n : ℕ). drop n (samples taken)) (sym (length-altered (message taken) (ds taken))))
-
-  read-part : take (sent called).count left ≡ recorded taken
-  read-part = ap (take (sent called).count) filled ∙ take_at (recorded taken) (drop (length (recorded taken)) (samples taken)) (sent called).count long
+        read-part : take sent.count left ≡ recorded
+        read-part = ap (take sent.count) filled ∙ take_at recorded (drop (length recorded) lent.samples) sent.count long
 
 pub returns-then-number-ne0 : goal.returns-then-number-ne0
 returns-then-number-ne0 c =
@@ -133,52 +124,80 @@ returns-then-number-ne0 c =
 
 pub slice_bounds-disturb-end : goal.slice_bounds-disturb-end
 slice_bounds-disturb-end c =
-    let s = c.before in
-    given_room tt (message (else s)) (samples (else s)) (sent s) (given s)
+    let a = c.args in
+    let t : Taken a.band a.characters.now a.disturbance.now a.size (lists a.samples.now a.events.now a.differences.now) =
+    record { none = sym c.refusal-number.ensures ∙ c.if-number-ne0.false; bytes = λ i. search rules } in
+    fits _ _ _ _ _ t (outcome c.send-sent.result tt c.send-sent.new.out) c.send-sent.ensures
 
 pub slice_bounds-disturb-end-2 : goal.slice_bounds-disturb-end-2
 slice_bounds-disturb-end-2 c =
-    let s = c.before.before in
-    given_part tt (message (else s)) (samples (else s)) (sent s) (given s)
+    let a = c.args in
+    let t : Taken a.band a.characters.now a.disturbance.now a.size (lists a.samples.now a.events.now a.differences.now) =
+    record { none = sym c.refusal-number.ensures ∙ c.if-number-ne0.false; bytes = λ i. search rules } in
+    part _ _ _ _ _ t (outcome c.send-sent.result tt c.send-sent.new.out) c.send-sent.ensures
 
 pub disturb-requires : goal.disturb-requires
 disturb-requires c =
-    let s = c.before.before in
-    let e = else s in
-    rw (front s)
-    (send_bound 0 (bit_steps (tones_of (band e)) (message_bits (cs e))), (small e, omega (arith, length-samples (band e) (cs e), (all-allowed e).room.numbers)))
+    let a = c.args in
+    let t : Taken a.band a.characters.now a.disturbance.now a.size (lists a.samples.now a.events.now a.differences.now) =
+    record { none = sym c.refusal-number.ensures ∙ c.if-number-ne0.false; bytes = λ i. search rules } in
+    let sent : Outcome Unit (List ℤ) = outcome c.send-sent.result tt c.send-sent.new.out in
+    record {
+      bounded = bounded _ _ _ _ _ t sent c.send-sent.ensures;
+      bounded_2 = small _ _ _ _ _ t;
+      samples_in_bounds = numbered _ _ _ _ _ t sent c.send-sent.ensures;
+    }
 
 pub slice_bounds-receive-end : goal.slice_bounds-receive-end
 slice_bounds-receive-end c =
-    let d = c.before in
-    omega (arith, ap length (filled d), length-append (recorded (taken d)) (drop (length (recorded (taken d))) (samples (taken d))), long d)
+    let a = c.args in
+    let t : Taken a.band a.characters.now a.disturbance.now a.size (lists a.samples.now a.events.now a.differences.now) =
+    record { none = sym c.refusal-number.ensures ∙ c.if-number-ne0.false; bytes = λ i. search rules } in
+    fits-still _ _ _ _ _ t (outcome c.send-sent.result tt c.send-sent.new.out) c.send-sent.ensures _ c.disturb.ensures
 
 pub slice_bounds-receive-end-2 : goal.slice_bounds-receive-end-2
-slice_bounds-receive-end-2 c = let d = c.before.before in sym (ap length (read-part d) ∙ long d)
+slice_bounds-receive-end-2 c =
+    let a = c.args in
+    let t : Taken a.band a.characters.now a.disturbance.now a.size (lists a.samples.now a.events.now a.differences.now) =
+    record { none = sym c.refusal-number.ensures ∙ c.if-number-ne0.false; bytes = λ i. search rules } in
+    let sent : Outcome Unit (List ℤ) = outcome c.send-sent.result tt c.send-sent.new.out in
+    sym (ap length (read-part _ _ _ _ _ t sent c.send-sent.ensures _ c.disturb.ensures) ∙ long _ _ _ _ _ t sent c.send-sent.ensures)
 
 pub receive-count-requires : goal.receive-count-requires
 receive-count-requires c =
-    let d = c.before.before.before.before in
-    let e = taken d in
-    let a = all-allowed e in
-    rw (read-part d, many e) (a.known, (range e, ((a.sizes.low, a.sizes.high), (a.room.free, a.room.beside))))
+    let a = c.args in
+    let t : Taken a.band a.characters.now a.disturbance.now a.size (lists a.samples.now a.events.now a.differences.now) =
+    record { none = sym c.refusal-number.ensures ∙ c.if-number-ne0.false; bytes = λ i. search rules } in
+    let b = all-allowed _ _ _ _ _ t in
+    let part = read-part _ _ _ _ _ t (outcome c.send-sent.result tt c.send-sent.new.out) c.send-sent.ensures _ c.disturb.ensures in
+    let places = ap (λ (xs : List ℤ). length (measured_after (fresh a.band) xs)) part ∙ many _ _ _ _ _ t in
+    record {
+      band_value = b.known;
+      samples_value = rw part (range _ _ _ _ _ t);
+      le_size = (b.sizes.low, b.sizes.high);
+      samples_in_bounds = rw places b.room.free;
+      samples_in_bounds_2 = rw places b.room.beside;
+    }
 
 pub returns : goal.returns
 returns c =
-    let d = c.before.before.before.before.before.before.before.before in
-    let e = taken d in
-    let a = (start e).args in
+    let a = c.args in
+    let t : Taken a.band a.characters.now a.disturbance.now a.size (lists a.samples.now a.events.now a.differences.now) =
+    record { none = sym c.refusal-number.ensures ∙ c.if-number-ne0.false; bytes = λ i. search rules } in
+    let sent : Outcome Unit (List ℤ) = outcome c.send-sent.result tt c.send-sent.new.out in
+    let b = all-allowed _ _ _ _ _ t in
     let p = c.receive-count.ensures in
-    let told = measured_after (fresh a.band) (recorded e) in
-    let read = ap (measured_after (fresh a.band)) (read-part d) in
-    let count = p.0 ∙ ap length read ∙ many e in
+    let recording = recorded_of a.band a.characters.now a.disturbance.now in
+    let told = measured_after (fresh a.band) recording in
+    let read = ap (measured_after (fresh a.band)) (read-part _ _ _ _ _ t sent c.send-sent.ensures _ c.disturb.ensures) in
+    let count = p.count ∙ ap length read ∙ many _ _ _ _ _ t in
     let events =
-    p.1.0 ∙ ap (λ (l : List (ℕ × ℤ)). sets a.events.now 0 (numbers_of l)) read
-    ∙ ap (sets a.events.now 0) (promised e) ∙ sets-front (cs e) a.events.now (all-allowed e).room.free in
+    p.told ∙ ap (λ (l : List (ℕ × ℤ)). sets a.events.now 0 (numbers_of l)) read
+    ∙ ap (sets a.events.now 0) (promised _ _ _ _ _ t) ∙ sets-front a.characters.now a.events.now b.room.free in
     let differences =
-    p.1.1 ∙ ap (λ (l : List (ℕ × ℤ)). sets a.differences.now 0 (map (λ (x : ℕ × ℤ). x.1) l)) read
-    ∙ sets-front (differences_of a.band (cs e) (ds e)) a.differences.now
-    (omega (arith, length-map told (λ (x : ℕ × ℤ). x.1), many e, (all-allowed e).room.beside)) in
-    (λ i. record { number = 0; count = count i; state = tt; lent = lists (filled d i) (events i) (differences i) })
-    ∙ loopback_accepted a.band a.characters.now a.disturbance.now a.size (lists a.samples.now a.events.now a.differences.now)
-    (none e)
+    p.beside ∙ ap (λ (l : List (ℕ × ℤ)). sets a.differences.now 0 (map (λ (x : ℕ × ℤ). x.1) l)) read
+    ∙ sets-front (differences_of a.band a.characters.now a.disturbance.now) a.differences.now
+    (omega (arith, length-map told (λ (x : ℕ × ℤ). x.1), many _ _ _ _ _ t, b.room.beside)) in
+    let full = filled _ _ _ _ _ t sent c.send-sent.ensures _ c.disturb.ensures in
+    (λ i. record { number = 0; count = count i; state = tt; lent = lists (full i) (events i) (differences i) })
+    ∙ loopback_accepted a.band a.characters.now a.disturbance.now a.size (lists a.samples.now a.events.now a.differences.now) t.none

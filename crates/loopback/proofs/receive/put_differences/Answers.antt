@@ -1,12 +1,12 @@
 -- `loopback::receive::put_differences` meets its contract: the list is filled with the differences, place by place.
 -- Assumes nothing.
-use Prim.Native.Nat.{◌-◌}
 use native.Mathlib.Omega.{arith}
-use borrow.Author.Rules.{sfits_of}
+use borrow.Author.Rules.{rules}
 use lib.IntN.{pos}
-use lib.ListN.{length, drop, drop_of_length-le}
+use lib.ListN.{get_or, drop_of_length-le}
 use mir.Facts.{to_z-of_z}
 use mir.Syntax.{w64}
+use mir.Val.{SFits}
 use Rattle.calls.proofs.Filling.{filling_start, filling_next, filling_end}
 use Rattle.loopback.proofs.receive.put_differences.Goals as goal
 
@@ -22,8 +22,9 @@ overflow_add-place c = omega (arith, c.loop-i.invariant.2.long)
 pub loop-i-preserved : goal.loop-i-preserved
 loop-i-preserved c =
     let l = c.loop-i in
-    let a = c.args in
-    (omega arith, omega arith, filling_next a.decreases.now l.i (pos 0) _ (omega arith) (to_z-of_z {w = w64} (sfits_of c.differences-1.given)) l.invariant.2)
+    let xs = c.args.measured.now in
+    let f : SFits w64 (get_or xs l.i (pos 0)) = search rules in
+    (omega arith, omega arith, filling_next xs l.i (pos 0) _ (omega arith) (to_z-of_z {w = w64} f) l.invariant.2)
 
 pub shape_of-differences : goal.shape_of-differences
 shape_of-differences c = c.loop-i.invariant.2.long

@@ -1,9 +1,8 @@
 -- `loopback::receive::put_events` meets its contract: the list is filled with the events, place by place.
 -- Assumes nothing.
 use mathlib.Core.Path.{refl}
-use Prim.Native.Nat.{◌-◌}
 use native.Mathlib.Omega.{arith}
-use lib.ListN.{length, drop, drop_of_length-le}
+use lib.ListN.{drop_of_length-le}
 use Rattle.calls.proofs.Filling.{filling_start, filling_next, filling_end}
 use Rattle.loopback.proofs.receive.put_events.Goals as goal
 
