@@ -6,7 +6,7 @@ use mathlib.Core.List.{List, ◌∷◌}
 use Prim.Native.Nat.{ℕ, zero, suc, ◌-◌, ◌<◌, ◌≤◌}
 use native.Mathlib.Omega.{arith}
 use borrow.Author.Tests.{ne_eqb}
-use lib.ListN.{length, get_or, take, drop, length-drop, drop_of_length-le}
+use lib.ListN.{length, get_or, take, drop, length-drop, length-take, drop_of_length-le}
 use lib.Seq.{take_all, drop-cons}
 use Rattle.calls.specs.Refusals.{Test, first_of}
 use Rattle.calls.specs.Outcome.{Outcome, refused, accepted}
@@ -16,10 +16,14 @@ use Rattle.transmitter.specs.Calls.{most_characters}
 use Rattle.message.specs.Message.{message_of, samples_for, message_tests}
 use Rattle.message.proofs.Calls.{sendable}
 use Rattle.digits.specs.Numbers.{is_digit}
+pub use Rattle.digits.proofs.Numbers.{digit_low}
+use Rattle.digits.proofs.Numbers.{length-decimal}
 use Rattle.sheet.specs.Text.{sheet_of}
 use Rattle.sheet.specs.Calls.{most_bytes, write_tests, write_of}
 use Rattle.sheet.proofs.Calls.{Writable, writable}
 use Rattle.printing.specs.Printing.{refusal_lines}
+pub use Rattle.printing.proofs.Printing.{refusal-over}
+use Rattle.printing.proofs.Printing.{refusal-length}
 use Rattle.modulator.specs.Modulate.{send_tests, sheet_call, sending_of, modulated}
 
 -- ---- the tables of a message and of its sheet
@@ -86,7 +90,7 @@ digit-first first bytes d = rw d
 
 -- the first byte of the input, and those behind it
 module _ (input : List ℕ) where
-  pub input_empty : length input ≡ 0 → refusal_lines 1 ≡ modulated input
+  pub input_empty : length input ≡ 0 → modulated input ≡ refusal_lines 1
   unfolding modulated
   input_empty h = rw (drop_of_length-le input {i = 0} (omega arith))
 
@@ -97,12 +101,23 @@ module _ (input : List ℕ) where
     parts : input ≡ first ∷ drop 1 input
     parts = drop-cons input 0 0 h
 
-    pub input_other : is_digit first ≡ false → refusal_lines 1 ≡ modulated input
+    pub input_other : is_digit first ≡ false → modulated input ≡ refusal_lines 1
     unfolding modulated
     input_other d = rw parts (rw d)
 
-    pub input_digit : is_digit first ≡ true → sending_of (first - 48) (take (length input - 1) (drop 1 input)) ≡ modulated input
+    pub input_digit : is_digit first ≡ true → modulated input ≡ sending_of (first - 48) (take (length input - 1) (drop 1 input))
     input_digit d =
-        ap (sending_of (first - 48)) (take_all (length input - 1) (drop 1 input) (omega (arith, length-drop 1 input)))
+        sym
+        (ap (sending_of (first - 48)) (take_all (length input - 1) (drop 1 input) (omega (arith, length-drop 1 input)))
         ∙ digit-first first (drop 1 input) d
-        ∙ ap modulated (sym parts)
+        ∙ ap modulated (sym parts))
+
+-- ---- for the search of the check: the cases by the first byte, and that the lines of a refusal are the front of a buffer
+
+pub refusal_short : length (refusal_lines 1) ≤ 12
+refusal_short = omega (arith, refusal-length 1, length-decimal 2 1 (omega arith))
+
+pub front_length : (count : ℕ) (lent : List ℕ) → count ≤ length lent → length (take count lent) ≡ count
+front_length count lent h = omega (arith, length-take count lent)
+
+pub ruleset by_first = (input_empty, input_other, input_digit, digit_low, refusal-over, refusal_short, front_length)

@@ -20,6 +20,7 @@ pub const MOST_INPUT: usize = transmitter::MOST_CHARACTERS + 2;
 const MOST_SENT: usize = 192 + 320 * transmitter::MOST_CHARACTERS;
 
 // A band digit and characters to the sheet of leader, characters and trailer.
+#[tactic(auto, using(crate::proofs::Cases::by_first))]
 pub fn modulate(input: &[u8], out: &mut [u8; MOST_BYTES]) -> usize
     ensures count { result ≡ length (modulated input.now) }
     ensures lent { out.new ≡ over (modulated input.now) out.old }

@@ -21,9 +21,9 @@ unfolding gives
 numbers-at s x = rw (append-nil (receiver.measured_at s x), append-nil (receiver.events_at s x)) at (counting.measured-numbers s (x ∷ []))
 
 -- with its band
-in_band : (band : ℕ) (es : List (ℕ × ℤ)) → numbers_of (map (measured_in band) es) ≡ map (in_band band) (numbers_of es)
-in_band band [] = refl
-in_band band (e ∷ es) = ap (λ (l : List ℕ). in_band band e.0 ∷ l) (in_band band es)
+in_band_numbers : (band : ℕ) (es : List (ℕ × ℤ)) → numbers_of (map (measured_in band) es) ≡ map (in_band band) (numbers_of es)
+in_band_numbers band [] = refl
+in_band_numbers band (e ∷ es) = ap (λ (l : List ℕ). in_band band e.0 ∷ l) (in_band_numbers band es)
 
 both_at : (t : Tap) (x : ℤ) → numbers_of (measured_at t x) ≡ events_at t x
 unfolding measured_at events_at
@@ -33,7 +33,7 @@ both_at t x =
     ∙ ap₂ (λ (l m : List ℕ). l ++ m) (of t.first) (of t.second)
   where
     of : (s : Receiver) → numbers_of (map (measured_in s.band) (receiver.measured_at s x)) ≡ map (in_band s.band) (receiver.events_at s x)
-    of s = in_band s.band (receiver.measured_at s x) ∙ ap (map (in_band s.band)) (numbers-at s x)
+    of s = in_band_numbers s.band (receiver.measured_at s x) ∙ ap (map (in_band s.band)) (numbers-at s x)
 
 pub measured-numbers : (t : Tap) (xs : List ℤ) → numbers_of (measured_after t xs) ≡ events_after t xs
 unfolding gives

@@ -1,0 +1,16 @@
+-- `tap::opening::fresh` meets its contract.
+-- Assumes nothing.
+use mathlib.Core.Path.{ap, ◌∙◌}
+use Rattle.tones.proofs.Laws.{pair-known}
+use Rattle.receiver.specs.declared.Opened.{Opened}
+use Rattle.receiver.proofs.Ranges.{open_band}
+use Rattle.tap.proofs.opening.fresh.Goals as goal
+
+pub returns : goal.returns
+returns c =
+    let known = pair-known c.args.first c.args.second c.requires in
+    λ i.
+    record {
+      first = (ap (λ (o : Opened). o.receiver) c.open-one.ensures ∙ open_band c.args.first known.0) i;
+      second = (ap (λ (o : Opened). o.receiver) c.open-two.ensures ∙ open_band c.args.second known.1) i;
+    }
