@@ -211,12 +211,13 @@ fn function(place: &str, files: Files) -> Option<String> {
     Some(parts.into_iter().flatten().collect::<Vec<_>>().join("/"))
 }
 
-/// The name of the function that a line of code begins.
+/// The name of the function that a line of code begins, whose parameters, of types or
+/// of values, stand behind it.
 fn declared(line: &str) -> Option<&str> {
     let (head, rest) = line.trim_start().split_once("fn ")?;
-    let words = ["pub", "extern", "\"C\""];
+    let words = ["pub", "pub(crate)", "extern", "\"C\""];
     let is_head = head.split_whitespace().all(|word| words.contains(&word));
-    rest.split('(').next().filter(|_| is_head)
+    rest.split(['(', '<']).next().filter(|_| is_head)
 }
 
 /// The texts between backquotes.

@@ -125,6 +125,14 @@ fn add(n: u8) -> u8 {
 #[unsafe(no_mangle)]
 pub extern \"C\" fn exported() -> u8
     ensures { result ≡ 1 }
+
+pub(crate) fn inside(n: u8) -> u8 {
+    n + 1
+}
+
+pub fn of_any<T: Add>(n: T) -> T {
+    n.add()
+}
 ";
 
 fn made_up(file: &str) -> Option<String> {
@@ -164,6 +172,8 @@ fn the_goal_stands_in_a_proof_or_in_code() {
         ("src/table.rt:9:7", "table/add"),
         ("src/table.rt:12:1", "table/exported"),
         ("src/lib.rt:13:1", "exported"),
+        ("src/lib.rt:17:5", "inside"),
+        ("src/table.rt:21:5", "table/of_any"),
         ("src/lib.rt:4:1", "Table/put"),
     ] {
         let line = NOTE.replace("src/table.rt:9:7", place);
@@ -257,7 +267,7 @@ fn public(line: &str) -> Option<&str> {
     let line = line.trim_start();
     let rest = line.strip_prefix("pub fn ");
     let rest = rest.or_else(|| line.strip_prefix("pub extern \"C\" fn "));
-    rest?.split('(').next()
+    rest?.split(['(', '<']).next()
 }
 
 #[test]

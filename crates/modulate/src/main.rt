@@ -1,12 +1,14 @@
 // Prints the sheet of a message: standard input is a band digit and the characters behind it.
 #![tactic(auto)]
 
+use streams::Plain;
+
 fn main(rt: HostRuntime) {
     let mut input = [0u8; modulator::MOST_INPUT];
     let read = streams::read_all(&rt, &mut rt.stdin(), &mut input);
-    // A failure is told on standard error alone; the exit status is 0 then too.
+    // A failure is told on standard error alone; the exit status is 0 then too. Nobody could be told that this failed.
     if let Some(error) = &read.error {
-        streams::fail(&rt, "modulate: standard input", error);
+        let _ = eprintln!(rt; "modulate: standard input: {}", Plain(error));
         return;
     }
     let n = read.count;
@@ -14,6 +16,6 @@ fn main(rt: HostRuntime) {
     let len = modulator::modulate(&input[..n], &mut out);
     let written = streams::write_all(&rt, &mut rt.stdout(), &out[..len]);
     if let Some(error) = &written.error {
-        streams::fail(&rt, "modulate: standard output", error);
+        let _ = eprintln!(rt; "modulate: standard output: {}", Plain(error));
     }
 }

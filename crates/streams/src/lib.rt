@@ -10,7 +10,7 @@ ghost use Rattle.std.specs.IoError.{error_kind};
 ghost use Rattle.std.specs.Io.KnownBytes.{Appends, Consumes, IsAtEnd};
 ghost use Rattle.io.specs.Counts.{IsPrefixLen};
 
-use std::fmt::InlineText;
+use std::fmt::{self, Display, Formatter, InlineText};
 use std::io::{Error, ErrorKind, Read, Write};
 use std::thread;
 use std::time::{Clock, Duration};
@@ -112,16 +112,19 @@ pub fn write_all<W: Write>(clock: &impl Clock, writer: &mut W, bytes: &[u8]) -> 
     }
 }
 
-// Writes a line to standard error: what failed, as the caller names it, a colon and the error's text, without the system's number for it.
-pub fn fail(rt: &impl Eprint, what: &str, error: &Error) {
-    let told = InlineText::<128>::of(error);
-    let text = told.as_str();
-    let reason = match text.split_once(" (os error ") {
-        Some((front, _)) => front,
-        None => text,
-    };
-    // Nobody could be told that this failed.
-    let _ = eprintln!(rt; "{what}: {reason}");
+// An error's text, without the system's number for it.
+#[derive(Clone, Copy)]
+pub struct Plain<'a>(pub &'a Error);
+
+impl Display for Plain<'_> {
+    fn fmt<W: fmt::Write>(&self, f: &mut Formatter<W>) -> fmt::Result {
+        let told = InlineText::<128>::of(self.0);
+        let text = told.as_str();
+        match text.split_once(" (os error ") {
+            Some((front, _)) => f.write_str(front),
+            None => f.write_str(text),
+        }
+    }
 }
 
 fn too_many_calls() -> Error

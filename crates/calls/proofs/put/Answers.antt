@@ -1,12 +1,11 @@
 -- `calls::put` meets its contract: the buffer is filled with the samples, place by place, as far as there are places.
 -- Assumes nothing.
 use mathlib.Core.List.{[]}
-use Prim.Native.Nat.{◌-◌}
 use native.Mathlib.Nat.{add-zero, add_assoc}
 use native.Mathlib.Omega.{arith}
 use borrow.Author.Rules.{sfits_of}
 use lib.IntN.{pos}
-use lib.ListN.{length, drop, drop_of_length-le}
+use lib.ListN.{length, drop_of_length-le}
 use mir.Syntax.{w16}
 use mir.Facts.{to_z-of_z}
 use Rattle.integers.proofs.Tests.{lt_or_le}

@@ -1,6 +1,5 @@
 -- `calls::put` meets its contract: the buffer is filled with the samples, place by place, as far as there are places.
 -- Assumes nothing.
-use mathlib.Core.List.{[]}
 use Prim.Native.Nat.{◌+◌, ◌-◌, ◌≤◌}
 use lib.ListN.{drop}
 use Rattle.calls.proofs.Filling.{Filling}

@@ -1,13 +1,12 @@
 -- `tones::are_between` meets its contract: each turn tests one number.
 -- Assumes nothing.
 use mathlib.Core.Path.{refl, sym}
-use Prim.Native.Nat.{◌-◌, zero-le}
+use Prim.Native.Nat.{zero-le}
 use native.Mathlib.Omega.{arith}
 use borrow.Author.Rules.{sfits_of}
 use lib.IntN.{pos}
 use lib.ListN.{get_or}
 use mir.Syntax.{w16}
-use mir.Val.{to_z}
 use mir.Facts.{to_z-of_z}
 use Rattle.tones.proofs.Samples.{tested_more, tested_all}
 use Rattle.tones.proofs.are_between.Goals as goal
