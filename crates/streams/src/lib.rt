@@ -130,7 +130,7 @@ impl Display for Plain<'_> {
 fn too_many_calls() -> Error
     ensures { error_kind result ≡ ErrorKind.TimedOut }
 {
-    Error::new(ErrorKind::TimedOut, "gave up after 2^64 calls")
+    Error::new(ErrorKind::TimedOut, "gave up after 2^64 - 1 calls")
 }
 
 // Whether the call that has just failed is to be made again: a signal interrupted it, or the stream was not ready, for which a
