@@ -1,16 +1,67 @@
--- Tables of refusals: what is known if no test holds, if one does, and of the call that is refused or not by them.
+-- Tables of refusals: what is known if no test holds, if one does, and of the call that is refused or not by them; and what the number of a
+-- result tells of it.
 -- Assumes nothing.
-use mathlib.Core.Path.{◌≡◌, refl}
+use mathlib.Core.Path.{◌≡◌, refl, sym, ap, ◌∙◌}
 use mathlib.Core.Bool.{Bool, true, false, cond}
 use mathlib.Core.List.{List, [], ◌∷◌, ◌++◌}
 use Prim.Native.Nat.{ℕ, zero, suc}
 use native.Mathlib.Omega.{arith}
 use borrow.Author.Tests.{ne_eqb}
 use lib.Dec.{T, eqb, eqb-suc-zero, ltb, ltb→lt}
+use lib.ListN.{length}
+use Rattle.std.specs.Prelude.{Result, Ok, Err}
 use Rattle.integers.specs.All.{All, none, more}
+use Rattle.calls.specs.declared.Refusal.{Refusal}
+use Rattle.calls.specs.declared.Refusal.TheVariants.{UnknownBand, StateOutOfRange, TooMany, TooFewPlaces, SampleOutOfRange, SheetTooLong, NotASheet, NotAPair}
 use Rattle.calls.specs.Refusals as refusals
-use Rattle.calls.specs.Refusals.{Test, first_of, IsFirst}
-use Rattle.calls.specs.Outcome.{Outcome, refused, unless_refused}
+use Rattle.calls.specs.Refusals.{number_of, refusal_number, Test, first_of, IsFirst}
+use Rattle.calls.specs.Outcome.{Outcome, outcome, as_answer, over, accepted, refused, unless_refused}
+
+-- ---- what the number of a result tells
+
+-- no refusal has the number 0
+pub numbered : (r : Refusal) → number_of r ≡ 0 → ⊥
+numbered UnknownBand e = omega arith
+numbered StateOutOfRange e = omega arith
+numbered TooMany e = omega arith
+numbered TooFewPlaces e = omega arith
+numbered SampleOutOfRange e = omega arith
+numbered SheetTooLong e = omega arith
+numbered NotASheet e = omega arith
+numbered NotAPair e = omega arith
+
+module _ {A : Type 0} where
+  -- 0 is an `Ok`, and any other number an `Err`
+  pub is-ok : (r : Result A Refusal) → refusal_number r ≡ 0 → (x : A) × (r ≡ Ok x)
+  is-ok (Ok x) e = (x, refl)
+  is-ok (Err r) e = absurd (numbered r e)
+
+  pub is-err : (r : Result A Refusal) → (refusal_number r ≡ 0 → ⊥) → (x : Refusal) × (r ≡ Err x)
+  is-err (Ok x) h = absurd (h refl)
+  is-err (Err r) h = (r, refl)
+
+pub answer-number : (r : Result ℕ Refusal) → (as_answer r).number ≡ refusal_number r
+answer-number (Ok n) = refl
+answer-number (Err r) = refl
+
+-- the number 0 is beside the count of an `Ok`
+pub answer-ok : (r : Result ℕ Refusal) → (as_answer r).number ≡ 0 → r ≡ Ok (as_answer r).count
+answer-ok (Ok n) e = refl
+answer-ok (Err r) e = absurd (numbered r e)
+
+pub answer-err : (r : Result ℕ Refusal) → ((as_answer r).number ≡ 0 → ⊥) → (x : Refusal) × (r ≡ Err x)
+answer-err (Ok n) h = absurd (h refl)
+answer-err (Err r) h = (r, refl)
+
+-- the same of an outcome that is told by its number
+module _ {S L : Type 0} (r : Result ℕ Refusal) (s : S) (lent : L) (o : Outcome S L) (e : outcome (as_answer r) s lent ≡ o) where
+  pub outcome-ok : o.number ≡ 0 → r ≡ Ok o.count
+  outcome-ok z = answer-ok r (ap (λ (p : Outcome S L). p.number) e ∙ z) ∙ ap (λ (p : Outcome S L). Ok p.count) e
+
+  pub outcome-err : (o.number ≡ 0 → ⊥) → (x : Refusal) × (r ≡ Err x)
+  outcome-err h = answer-err r (λ z. h (sym (ap (λ (p : Outcome S L). p.number) e) ∙ z))
+
+-- ---- tables
 
 -- every number of the table is above 0; of a table with its numbers written out this is computed
 abbrev pub Numbered : List Test → Type 0
@@ -75,3 +126,18 @@ module _ {S L : Type 0} (tests : List Test) (s : S) (lent : L) (given : Outcome 
       go : (n : ℕ) → (n ≡ 0 → P given) → P (cond (eqb n 0) given (refused n s lent))
       go zero g = g refl
       go (suc n) g = rw (eqb-suc-zero n) (refuses n)
+
+  -- what a call answers after its check by the tests: the reason that the check gave, or what it gives
+  pub answer_refused : (r : Refusal) → number_of r ≡ first_of tests → outcome (as_answer (Err r)) s lent ≡ unless_refused tests s lent given
+  answer_refused r e = is-refused (number_of r) e (numbered r)
+
+  pub answer_given : 0 ≡ first_of tests → (n : ℕ) (t : S) (now : L) → outcome (as_answer (Ok n)) t now ≡ given
+      → outcome (as_answer (Ok n)) t now ≡ unless_refused tests s lent given
+  answer_given e n t now g = g ∙ sym (not-refused (sym e))
+
+module _ {S A : Type 0} (tests : List Test) (s : S) (lent : List A) where
+  -- the same where a list fills the front of the lent one
+  pub answer_accepted : 0 ≡ first_of tests → (t : S) (xs : List A) (n : ℕ) (now : List A) → n ≡ length xs → now ≡ over xs lent
+      → outcome (as_answer (Ok n)) t now ≡ unless_refused tests s lent (accepted t xs lent)
+  answer_accepted e t xs n now en el =
+      answer_given tests s lent (accepted t xs lent) e n t now (λ i. record { number = 0; count = en i; state = t; lent = el i })

@@ -1,9 +1,11 @@
 -- What a call on a state gives, accepted or refused: the specification, "Refused calls". Every such call is one definition with an
 -- outcome as its value, and a contract equates that with what the code returned and left.
 -- Assumes nothing.
-use Rattle.std.specs.Prelude.{Bool, cond, List, [], ◌∷◌, ◌++◌, map, ℕ, eqb, length, take, drop}
+use Rattle.std.specs.Prelude.{Bool, cond, List, [], ◌∷◌, ◌++◌, map, ℕ, eqb, length, take, drop, Result, Ok, Err}
+use Rattle.calls.specs.declared.Refusal.{Refusal}
 use Rattle.calls.specs.declared.Answer.{Answer}
-use Rattle.calls.specs.Refusals.{Test, first_of}
+use Rattle.calls.specs.declared.Answered.{Answered}
+use Rattle.calls.specs.Refusals.{number_of, refusal_number, Test, first_of}
 
 -- the number (0: accepted), the count of places used, the next state, and the lent memory as it stands on return: a list, several, or
 -- none
@@ -17,6 +19,19 @@ pub record Outcome (S L : Type 0) : Type 0 where
 abbrev pub answer_of : ℕ → ℕ → Answer
 answer_of number count = record { number = number; count = count }
 
+-- what it answers where it gives a count or a refusal
+abbrev pub as_answer : Result ℕ Refusal → Answer
+as_answer (Ok count) = answer_of 0 count
+as_answer (Err r) = answer_of (number_of r) 0
+
+-- what an opening gives: the number and a fresh state
+pub record Opening (S : Type 0) : Type 0 where
+  pub number : ℕ
+  pub state : S
+
+abbrev pub opened : {S : Type 0} → Answered S Unit → Opening S
+opened r = record { number = refusal_number r.answer; state = r.state }
+
 -- a list over the front of another one, whose places behind are untouched
 abbrev pub over : {A : Type 0} → List A → List A → List A
 over xs lent = xs ++ drop (length xs) lent
@@ -26,7 +41,7 @@ module _ {S L : Type 0} where
   abbrev pub refused : ℕ → S → L → Outcome S L
   refused n s lent = record { number = n; count = 0; state = s; lent = lent }
 
-  -- what the code answered, the state that it gave and what it left in the lent memory, as an outcome
+  -- what the code as_answer, the state that it gave and what it left in the lent memory, as an outcome
   abbrev pub outcome : Answer → S → L → Outcome S L
   outcome a s lent = record { number = a.number; count = a.count; state = s; lent = lent }
 

@@ -1,7 +1,25 @@
 -- A call's refusals as a table: the specification, "Refused calls". A number is answered if and only if its condition is the first in the
 -- table's order that holds.
 -- Assumes nothing.
-use Rattle.std.specs.Prelude.{◌≡◌, Bool, true, false, cond, List, [], ◌∷◌, ℕ}
+use Rattle.std.specs.Prelude.{◌≡◌, Bool, true, false, cond, List, [], ◌∷◌, ℕ, Result, Ok, Err}
+use Rattle.calls.specs.declared.Refusal.{Refusal}
+use Rattle.calls.specs.declared.Refusal.TheVariants.{UnknownBand, StateOutOfRange, TooMany, TooFewPlaces, SampleOutOfRange, SheetTooLong, NotASheet, NotAPair}
+
+-- its number in the table; 8 is ours, for bands that are no pair
+abbrev pub number_of : Refusal → ℕ
+number_of UnknownBand = 1
+number_of StateOutOfRange = 2
+number_of TooMany = 3
+number_of TooFewPlaces = 4
+number_of SampleOutOfRange = 5
+number_of SheetTooLong = 6
+number_of NotASheet = 7
+number_of NotAPair = 8
+
+-- the number that is returned: 0, or that of the refusal
+abbrev pub refusal_number : {A : Type 0} → Result A Refusal → ℕ
+refusal_number (Ok x) = 0
+refusal_number (Err r) = number_of r
 
 -- a number, and whether its condition holds
 pub record Test : Type 0 where

@@ -1,11 +1,51 @@
-// What every call reports beside its next state and the caller's buffer, and how samples are put into a buffer. What a call
-// gives, accepted or refused, is Outcome of specs/Outcome.antt.
+// What every call answers, accepted or refused, and how a list is put into a caller's buffer. What a call gives is Outcome of
+// specs/Outcome.antt.
 #![tactic(auto)]
 
-ghost use Rattle.std.specs.Prelude.{◌≡◌, ◌-◌, min};
+ghost use Rattle.std.specs.Prelude.{◌≡◌};
 ghost use Rattle.std.proofs.lemmas.List.Edits.{sets};
+ghost use Rattle.calls.specs.Refusals.{number_of};
+ghost use Rattle.calls.specs.Outcome.{as_answer};
 
-// The number 0 and how many places of the buffer were used, or the number of a refusal and 0. C programs get it as it is.
+// Why a call is refused: the table of the specification, "Refused calls", from its number 1 on. `NotAPair` is ours, of the calls on two bands.
+#[derive(Clone, Copy, Debug, PartialEq, Eq)]
+pub enum Refusal {
+    UnknownBand,
+    StateOutOfRange,
+    TooMany,
+    TooFewPlaces,
+    SampleOutOfRange,
+    SheetTooLong,
+    NotASheet,
+    NotAPair,
+}
+
+// Its number in the table.
+impl From<Refusal> for u8 {
+    ghost from_gives = { λ refusal n. n ≡ number_of refusal };
+
+    fn from(refusal: Refusal) -> u8 {
+        match refusal {
+            Refusal::UnknownBand => 1,
+            Refusal::StateOutOfRange => 2,
+            Refusal::TooMany => 3,
+            Refusal::TooFewPlaces => 4,
+            Refusal::SampleOutOfRange => 5,
+            Refusal::SheetTooLong => 6,
+            Refusal::NotASheet => 7,
+            Refusal::NotAPair => 8,
+        }
+    }
+}
+
+// What a call on a state gives: the next state with what it answers, or the state as handed with the reason to refuse.
+#[derive(Clone, Copy)]
+pub struct Answered<S, T> {
+    pub state: S,
+    pub answer: Result<T, Refusal>,
+}
+
+// What C programs get: the number 0 and how many places of the buffer were used, or the number of a refusal and 0.
 #[repr(C)]
 #[derive(Clone, Copy)]
 pub struct Answer {
@@ -13,25 +53,26 @@ pub struct Answer {
     pub count: usize,
 }
 
-// Copies samples to a buffer from the place `at` on. Those for which there is no place are left out.
-pub fn put(out: &mut [i16], at: usize, samples: &[i16])
-    ensures { out.new ≡ sets out.old at samples.now }
-{
-    let n = fitting(out.len(), at, samples.len());
-    let mut i: usize = 0;
-    while i < n {
-        out[at + i] = samples[i];
-        i += 1;
+impl From<Result<usize, Refusal>> for Answer {
+    ghost from_gives = { λ r answer. answer ≡ as_answer r };
+
+    fn from(answer: Result<usize, Refusal>) -> Answer {
+        match answer {
+            Ok(count) => Answer { number: 0, count },
+            Err(refusal) => Answer {
+                number: refusal.into(),
+                count: 0,
+            },
+        }
     }
 }
 
-// How many of `count` samples have a place from `at` on.
-fn fitting(places: usize, at: usize, count: usize) -> usize
-    ensures { result ≡ min (places - at) count }
+// Copies items to a buffer from the place `at` on. Those for which there is no place are left out.
+pub fn put<T: Copy>(out: &mut [T], at: usize, items: &[T])
+    ensures { out.new ≡ sets out.old at items.now }
 {
-    if places < at {
-        return 0;
+    if at < out.len() {
+        let n = items.len().min(out.len() - at);
+        out[at..at + n].copy_from_slice(&items[..n]);
     }
-    let room = places - at;
-    if room < count { room } else { count }
 }
