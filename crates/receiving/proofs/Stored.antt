@@ -24,12 +24,12 @@ use Rattle.receiving.specs.declared.Block.{Block}
 use Rattle.receiving.specs.Numbers.{stage_numbers, stage_of, difference_numbers, difference_of, numbers_of, receiver_of, reading_numbers, outcome_numbers, block_numbers}
 
 -- what one call gives, the next one takes for the same state
-stage-stored : (s : Stage) → stage_of (stage_numbers s) ≡ s
+stage-stored : (s : Stage) → (let n = stage_numbers s in stage_of n.0 n.1 n.2 n.3) ≡ s
 stage-stored Searching = refl
 stage-stored (Waiting wait slot byte) = refl
 stage-stored Held = refl
 
-difference_stored : (q : Difference) → difference_of (difference_numbers q) ≡ q
+difference_stored : (q : Difference) → (let d = difference_numbers q in difference_of d.0 d.1) ≡ q
 difference_stored None = refl
 difference_stored (Of least) = refl
 

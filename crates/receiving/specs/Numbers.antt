@@ -11,36 +11,33 @@ use Rattle.receiver.specs.declared.Receiver.{Receiver}
 use Rattle.receiver.specs.declared.Opened.{Opened}
 use Rattle.receiver.specs.declared.Reading.{Reading}
 use Rattle.receiver.specs.Calls.{EventLists, block_of, indexed_of}
-use Rattle.receiving.specs.declared.StageNumbers.{StageNumbers}
-use Rattle.receiving.specs.declared.DifferenceNumbers.{DifferenceNumbers}
 use Rattle.receiving.specs.declared.State.{State}
 use Rattle.receiving.specs.declared.Opening.{Opening}
 use Rattle.receiving.specs.declared.Block.{Block}
 
 -- ---- a stage
 
--- the numbers of a stage
-abbrev pub stage_numbers : Stage → StageNumbers
-stage_numbers Searching = record { stage = 0; wait = 0; slot = 0; byte = 0 }
-stage_numbers (Waiting wait slot byte) = record { stage = 1; wait = wait; slot = slot; byte = byte }
-stage_numbers Held = record { stage = 2; wait = 0; slot = 0; byte = 0 }
+-- the numbers of a stage: its own, and those of a wait, a slot and a byte
+abbrev pub stage_numbers : Stage → ℕ × ℕ × ℕ × ℕ
+stage_numbers Searching = (0, 0, 0, 0)
+stage_numbers (Waiting wait slot byte) = (1, wait, slot, byte)
+stage_numbers Held = (2, 0, 0, 0)
 
 -- the stage of numbers: 0 is searching, 1 waiting and 2 a held break; any other is taken as a wait of 0, which is out of the ranges
-abbrev pub stage_of : StageNumbers → Stage
-stage_of n =
-    cond (eqb n.stage 0) Searching
-    (cond (eqb n.stage 1) (Waiting n.wait n.slot n.byte) (cond (eqb n.stage 2) Held (Waiting 0 0 0)))
+abbrev pub stage_of : (stage wait slot byte : ℕ) → Stage
+stage_of stage wait slot byte =
+    cond (eqb stage 0) Searching (cond (eqb stage 1) (Waiting wait slot byte) (cond (eqb stage 2) Held (Waiting 0 0 0)))
 
 -- ---- a smallest difference
 
--- its numbers
-abbrev pub difference_numbers : Difference → DifferenceNumbers
-difference_numbers None = record { measured = 0; smallest = pos 0 }
-difference_numbers (Of least) = record { measured = 1; smallest = least }
+-- its numbers: whether there is one, and which
+abbrev pub difference_numbers : Difference → ℕ × ℤ
+difference_numbers None = (0, pos 0)
+difference_numbers (Of least) = (1, least)
 
 -- the difference of numbers: 0 is none and 1 the number beside it; any other is taken as -1, which is out of the ranges
-abbrev pub difference_of : DifferenceNumbers → Difference
-difference_of n = cond (eqb n.measured 0) None (cond (eqb n.measured 1) (Of n.smallest) (Of (negsuc 0)))
+abbrev pub difference_of : ℕ → ℤ → Difference
+difference_of measured smallest = cond (eqb measured 0) None (cond (eqb measured 1) (Of smallest) (Of (negsuc 0)))
 
 -- ---- a state
 
@@ -50,27 +47,25 @@ receiver_of s =
       band = s.band;
       window = s.window;
       run = s.run;
-      stage = stage_of (record { stage = s.stage; wait = s.wait; slot = s.slot; byte = s.byte });
-      smallest = difference_of (record { measured = s.measured; smallest = s.smallest });
-    }
-
--- a state from the numbers of its stage and of its difference, and the other fields
-abbrev pub state_of : ℕ → List ℤ → ℕ → StageNumbers → DifferenceNumbers → State
-state_of band window run n d =
-    record {
-      band = band;
-      window = window;
-      run = run;
-      stage = n.stage;
-      wait = n.wait;
-      slot = n.slot;
-      byte = n.byte;
-      measured = d.measured;
-      smallest = d.smallest;
+      stage = stage_of s.stage s.wait s.slot s.byte;
+      smallest = difference_of s.measured s.smallest;
     }
 
 abbrev pub numbers_of : Receiver → State
-numbers_of r = state_of r.band r.window r.run (stage_numbers r.stage) (difference_numbers r.smallest)
+numbers_of r =
+    let n = stage_numbers r.stage in
+    let d = difference_numbers r.smallest in
+    record {
+      band = r.band;
+      window = r.window;
+      run = r.run;
+      stage = n.0;
+      wait = n.1;
+      slot = n.2;
+      byte = n.3;
+      measured = d.0;
+      smallest = d.1;
+    }
 
 -- ---- the calls
 

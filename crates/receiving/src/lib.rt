@@ -5,7 +5,7 @@
 ghost use Rattle.std.specs.Prelude.{◌≡◌};
 ghost use Rattle.calls.specs.Outcome.{answer_of, outcome};
 ghost use Rattle.receiver.specs.Calls.{open_of};
-ghost use Rattle.receiving.specs.Numbers.{stage_of, stage_numbers, difference_of, difference_numbers, receiver_of, numbers_of, opened_numbers, reading_numbers, block_numbers, indexed_numbers};
+ghost use Rattle.receiving.specs.Numbers.{receiver_of, numbers_of, opened_numbers, reading_numbers, block_numbers, indexed_numbers};
 
 pub mod testing;
 
@@ -13,7 +13,7 @@ use control::Stage;
 use quality::Difference;
 use receiver::{Reading, Receiver};
 
-// A receiver's state as numbers. Stage 0 is searching, stage 1 is waiting, with its wait, slot and byte, and stage 2 is a held break; where
+// A receiver's state as numbers, since C has no enums with fields. Stage 0 is searching, stage 1 is waiting, with its wait, slot and byte, and stage 2 is a held break; where
 // a call gives 0 or 2, these three are 0. Any other stage is out of its range. Where `measured` is 1, `smallest` is the smallest difference so
 // far; where it is 0 there is none, and a call gives 0 for both. Any other number of it is out of its range.
 #[repr(C)]
@@ -30,7 +30,7 @@ pub struct State {
     pub smallest: i64,
 }
 
-// What an opening answers: the number, and the fresh state of the band, or of band 1 if it is refused.
+// What an opening answers: the number, which C gets in place of a `Result`, and the fresh state of the band, or of band 1 if it is refused.
 #[repr(C)]
 #[derive(Clone, Copy)]
 pub struct Opening {
@@ -38,7 +38,8 @@ pub struct Opening {
     pub receiver: State,
 }
 
-// What a block call answers: the next state, the number, and the count of events.
+// What a block call answers: the next state, the number, and the count of events. No struct of a type parameter goes to C, so the tap's calls have
+// a struct of their own.
 #[repr(C)]
 #[derive(Clone, Copy)]
 pub struct Block {
@@ -47,31 +48,14 @@ pub struct Block {
     pub count: usize,
 }
 
-// The numbers of a stage by themselves.
-#[derive(Clone, Copy)]
-struct StageNumbers {
-    stage: u8,
-    wait: u8,
-    slot: u8,
-    byte: u8,
-}
-
-// The numbers of a smallest difference by themselves.
-#[derive(Clone, Copy)]
-struct DifferenceNumbers {
-    measured: u8,
-    smallest: i64,
-}
-
 // Opens a band.
 pub fn modem_receiver_open(band: u8) -> Opening
     ensures { result ≡ opened_numbers (open_of band) }
 {
     let opened = Receiver::open(band);
-    let fresh = opened.receiver;
     Opening {
         number: opened.number,
-        receiver: numbers_of(fresh),
+        receiver: State::from(opened.receiver),
     }
 }
 
@@ -86,7 +70,7 @@ pub fn modem_receiver_block(
     ensures { outcome (answer_of result.number result.count) result.receiver (events.new, differences.new)
         ≡ block_numbers receiver samples.now (events.old, differences.old) }
 {
-    let reading = receiver_of(receiver).block(samples, events, differences);
+    let reading = Receiver::from(receiver).block(samples, events, differences);
     reading_numbers(reading, receiver)
 }
 
@@ -101,7 +85,7 @@ pub fn modem_receiver_block_indexed(
     ensures { outcome (answer_of result.number result.count) result.receiver ((events.new, differences.new), indices.new)
         ≡ indexed_numbers receiver samples.now ((events.old, differences.old), indices.old) }
 {
-    let reading = receiver_of(receiver).block_indexed(samples, events, differences, indices);
+    let reading = Receiver::from(receiver).block_indexed(samples, events, differences, indices);
     reading_numbers(reading, receiver)
 }
 
@@ -111,139 +95,79 @@ fn reading_numbers(reading: Reading, handed: State) -> Block
     ensures { result ≡ reading_numbers reading handed }
 {
     let answer = reading.answer;
-    if answer.number != 0 {
-        return Block {
-            receiver: handed,
-            number: answer.number,
-            count: answer.count,
-        };
-    }
-    let next = reading.receiver;
+    let accepted = answer.number == 0;
     Block {
-        receiver: numbers_of(next),
+        receiver: if accepted {
+            State::from(reading.receiver)
+        } else {
+            handed
+        },
         number: answer.number,
         count: answer.count,
     }
 }
 
-// The state of its numbers.
-pub fn receiver_of(state: State) -> Receiver
-    ensures { result ≡ receiver_of state }
-{
-    let window = state.window;
-    let stage = stage_of(StageNumbers {
-        stage: state.stage,
-        wait: state.wait,
-        slot: state.slot,
-        byte: state.byte,
-    });
-    let smallest = difference_of(DifferenceNumbers {
-        measured: state.measured,
-        smallest: state.smallest,
-    });
-    Receiver {
-        band: state.band,
-        window,
-        run: state.run,
-        stage,
-        smallest,
+// The state of its numbers. A stage number above 2 gives no stage in its ranges, and a `measured` above 1 a negative difference, so that a call
+// refuses either.
+impl From<State> for Receiver {
+    ghost from_gives = { λ n s. s ≡ receiver_of n };
+
+    fn from(n: State) -> Receiver {
+        let window = n.window;
+        let stage = match n.stage {
+            0 => Stage::Searching,
+            1 => Stage::Waiting {
+                wait: n.wait,
+                slot: n.slot,
+                byte: n.byte,
+            },
+            2 => Stage::Held,
+            _ => Stage::Waiting {
+                wait: 0,
+                slot: 0,
+                byte: 0,
+            },
+        };
+        let smallest = match n.measured {
+            0 => Difference::None,
+            1 => Difference::Of(n.smallest),
+            _ => Difference::Of(-1),
+        };
+        Receiver {
+            window,
+            band: n.band,
+            run: n.run,
+            stage,
+            smallest,
+        }
     }
 }
 
 // The numbers of a state.
-pub fn numbers_of(receiver: Receiver) -> State
-    ensures { result ≡ numbers_of receiver }
-{
-    let window = receiver.window;
-    let stage = receiver.stage;
-    let smallest = receiver.smallest;
-    let n = stage_numbers(stage);
-    let d = difference_numbers(smallest);
-    State {
-        band: receiver.band,
-        window,
-        run: receiver.run,
-        stage: n.stage,
-        wait: n.wait,
-        slot: n.slot,
-        byte: n.byte,
-        measured: d.measured,
-        smallest: d.smallest,
-    }
-}
+impl From<Receiver> for State {
+    ghost from_gives = { λ s n. n ≡ numbers_of s };
 
-// The stage of its numbers. That of a number above 2 is no stage in its ranges, so that a call refuses it.
-fn stage_of(n: StageNumbers) -> Stage
-    ensures { result ≡ stage_of n }
-{
-    if n.stage == 0 {
-        Stage::Searching
-    } else if n.stage == 1 {
-        Stage::Waiting {
-            wait: n.wait,
-            slot: n.slot,
-            byte: n.byte,
-        }
-    } else if n.stage == 2 {
-        Stage::Held
-    } else {
-        Stage::Waiting {
-            wait: 0,
-            slot: 0,
-            byte: 0,
-        }
-    }
-}
-
-fn stage_numbers(stage: Stage) -> StageNumbers
-    ensures { result ≡ stage_numbers stage }
-{
-    match stage {
-        Stage::Searching => StageNumbers {
-            stage: 0,
-            wait: 0,
-            slot: 0,
-            byte: 0,
-        },
-        Stage::Waiting { wait, slot, byte } => StageNumbers {
-            stage: 1,
+    fn from(s: Receiver) -> State {
+        let window = s.window;
+        let (stage, wait, slot, byte) = match s.stage {
+            Stage::Searching => (0, 0, 0, 0),
+            Stage::Waiting { wait, slot, byte } => (1, wait, slot, byte),
+            Stage::Held => (2, 0, 0, 0),
+        };
+        let (measured, smallest) = match s.smallest {
+            Difference::None => (0, 0),
+            Difference::Of(least) => (1, least),
+        };
+        State {
+            band: s.band,
+            window,
+            run: s.run,
+            stage,
             wait,
             slot,
             byte,
-        },
-        Stage::Held => StageNumbers {
-            stage: 2,
-            wait: 0,
-            slot: 0,
-            byte: 0,
-        },
-    }
-}
-
-// The smallest difference of its numbers. That of a number above 1 is negative, so that a call refuses it.
-fn difference_of(n: DifferenceNumbers) -> Difference
-    ensures { result ≡ difference_of n }
-{
-    if n.measured == 0 {
-        Difference::None
-    } else if n.measured == 1 {
-        Difference::Of(n.smallest)
-    } else {
-        Difference::Of(-1)
-    }
-}
-
-fn difference_numbers(smallest: Difference) -> DifferenceNumbers
-    ensures { result ≡ difference_numbers smallest }
-{
-    match smallest {
-        Difference::None => DifferenceNumbers {
-            measured: 0,
-            smallest: 0,
-        },
-        Difference::Of(least) => DifferenceNumbers {
-            measured: 1,
-            smallest: least,
-        },
+            measured,
+            smallest,
+        }
     }
 }

@@ -3,7 +3,8 @@ ghost use Rattle.std.specs.Prelude.{◌≡◌};
 ghost use Rattle.calls.specs.Outcome.{answer_of, outcome};
 ghost use Rattle.receiving.specs.Numbers.{block_numbers};
 
-use crate::{Block, State, reading_numbers, receiver_of};
+use crate::{Block, State, reading_numbers};
+use receiver::Receiver;
 
 // Reads a block of samples through the receiver's second entry, to which the state is lent.
 pub fn modem_test_block_lent(
@@ -15,7 +16,6 @@ pub fn modem_test_block_lent(
     ensures { outcome (answer_of result.number result.count) result.receiver (events.new, differences.new)
         ≡ block_numbers receiver samples.now (events.old, differences.old) }
 {
-    let state = receiver_of(receiver);
-    let reading = lent::block_by_value(state, samples, events, differences);
+    let reading = lent::block_by_value(Receiver::from(receiver), samples, events, differences);
     reading_numbers(reading, receiver)
 }

@@ -7,6 +7,7 @@ ghost use Rattle.calls.specs.Outcome.{answer_of, outcome};
 ghost use Rattle.tap.specs.Calls.{open_of};
 ghost use Rattle.tapping.specs.Numbers.{tap_of, tap_numbers, opened_numbers, reading_numbers, block_numbers};
 
+use receiver::Receiver;
 use receiving::State;
 use tap::{Tap, TapReading};
 
@@ -40,10 +41,9 @@ pub fn modem_tap_open(first: u8, second: u8) -> TapOpening
     ensures { result ≡ opened_numbers (open_of first second) }
 {
     let opened = Tap::open(first, second);
-    let fresh = opened.tap;
     TapOpening {
         number: opened.number,
-        tap: numbers_of(fresh),
+        tap: Taps::from(opened.tap),
     }
 }
 
@@ -58,7 +58,7 @@ pub fn modem_tap_block(
     ensures { outcome (answer_of result.number result.count) result.tap (events.new, differences.new)
         ≡ block_numbers tap samples.now (events.old, differences.old) }
 {
-    let reading = tap_of(tap).block(samples, events, differences);
+    let reading = Tap::from(tap).block(samples, events, differences);
     reading_numbers(reading, tap)
 }
 
@@ -67,40 +67,38 @@ fn reading_numbers(reading: TapReading, handed: Taps) -> TapBlock
     ensures { result ≡ reading_numbers reading handed }
 {
     let answer = reading.answer;
-    if answer.number != 0 {
-        return TapBlock {
-            tap: handed,
-            number: answer.number,
-            count: answer.count,
-        };
-    }
-    let next = reading.tap;
+    let accepted = answer.number == 0;
     TapBlock {
-        tap: numbers_of(next),
+        tap: if accepted {
+            Taps::from(reading.tap)
+        } else {
+            handed
+        },
         number: answer.number,
         count: answer.count,
     }
 }
 
 // The state of its numbers.
-fn tap_of(taps: Taps) -> Tap
-    ensures { result ≡ tap_of taps }
-{
-    let first = taps.first;
-    let second = taps.second;
-    Tap {
-        first: receiving::receiver_of(first),
-        second: receiving::receiver_of(second),
+impl From<Taps> for Tap {
+    ghost from_gives = { λ n t. t ≡ tap_of n };
+
+    fn from(n: Taps) -> Tap {
+        Tap {
+            first: Receiver::from(n.first),
+            second: Receiver::from(n.second),
+        }
     }
 }
 
-fn numbers_of(tap: Tap) -> Taps
-    ensures { result ≡ tap_numbers tap }
-{
-    let first = tap.first;
-    let second = tap.second;
-    Taps {
-        first: receiving::numbers_of(first),
-        second: receiving::numbers_of(second),
+// The numbers of a state.
+impl From<Tap> for Taps {
+    ghost from_gives = { λ t n. n ≡ tap_numbers t };
+
+    fn from(t: Tap) -> Taps {
+        Taps {
+            first: State::from(t.first),
+            second: State::from(t.second),
+        }
     }
 }
