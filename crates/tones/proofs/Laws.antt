@@ -1,15 +1,16 @@
 -- What a band's number says, the rows of the table, and the pairs of bands.
 -- Assumes nothing.
 use mathlib.Core.Path.{◌≡◌, refl}
-use mathlib.Core.Bool.{true, false, ◌&&◌}
+use mathlib.Core.Bool.{true, false, ◌&&◌, and-false}
 use mathlib.Mathlib.Data.Bool.Basic.{and_elim_left, and_elim_right}
-use Prim.Native.Nat.{ℕ, suc, ◌-◌, ◌<◌, ◌≤◌}
+use Prim.Native.Nat.{ℕ, zero, suc, ◌-◌, ◌<◌, ◌≤◌}
 use native.Mathlib.Omega.{arith}
-use borrow.Author.Tests.{leb-true, eqb-true}
+use borrow.Author.Tests.{leb-true, lt-leb, eqb-true}
 use lib.Dec.{leb, eqb, lit≤}
 use lib.ListN.{length, get_or}
+use Rattle.std.specs.Prelude.{is_some, unwrap_or}
 use Rattle.integers.proofs.Tests.{or_case}
-use Rattle.tones.specs.Bands.{originate, bands, is_band, is_pair, tones_of}
+use Rattle.tones.specs.Bands.{originate, bands, row, is_band, is_pair, tones_of}
 
 pub record Band (b : ℕ) : Type 0 where
   pub low : 1 ≤ b
@@ -38,6 +39,25 @@ tones_band b h = rw h
 pub tones_else : (b : ℕ) → is_band b ≡ false → tones_of b ≡ originate
 unfolding tones_of
 tones_else b h = rw h
+
+-- the row of a number tells if it is a band, and its tones
+pub row_known : (b : ℕ) → is_band b ≡ is_some (row b)
+unfolding row is_band bands
+row_known zero = refl
+row_known (suc zero) = refl
+row_known (suc (suc zero)) = refl
+row_known (suc (suc (suc zero))) = refl
+row_known (suc (suc (suc (suc zero)))) = refl
+row_known (suc (suc (suc (suc (suc n))))) = rw (lt-leb (suc (suc (suc (suc (suc n))))) 4 (omega arith)) (and-false (leb 1 (suc (suc (suc (suc (suc n)))))))
+
+pub row_tones : (b : ℕ) → tones_of b ≡ unwrap_or (row b) originate
+unfolding row tones_of is_band bands
+row_tones zero = refl
+row_tones (suc zero) = refl
+row_tones (suc (suc zero)) = refl
+row_tones (suc (suc (suc zero))) = refl
+row_tones (suc (suc (suc (suc zero)))) = refl
+row_tones (suc (suc (suc (suc (suc n))))) = tones_else (suc (suc (suc (suc (suc n))))) (row_known (suc (suc (suc (suc (suc n))))))
 
 -- the first rows by number
 pub rows : (tones_of 1 ≡ originate) × (tones_of 2 ≡ record { space = 405; mark = 445 })

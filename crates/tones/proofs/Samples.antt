@@ -6,13 +6,12 @@ use mathlib.Core.List.{List, [], ◌∷◌, ◌++◌}
 use mathlib.Mathlib.Data.Bool.Basic.{and_elim_left, and_elim_right, and_intro}
 use Prim.Native.Nat.{ℕ, suc, ◌+◌, ◌<◌, ◌≤◌}
 use native.Mathlib.Nat.{le_trans, le_of_suc-le-suc}
-use native.Mathlib.Numerals.{add-one}
 use native.Mathlib.Omega.{arith}
 use borrow.Author.Tests.{leb-true, le-leb}
 use lib.IntN.{ℤ, pos, negsuc, nat_abs}
-use lib.ListN.{length, get_or, take, drop, take-append-drop, drop_of_length-le}
-use lib.Seq.{drop-cons}
+use lib.ListN.{length, get_or, take, drop, take-append-drop}
 use lib.Signed.{le_z}
+use Rattle.std.proofs.lemmas.List.{take_more}
 use Rattle.integers.specs.Sums.{Bounded}
 use Rattle.integers.proofs.Sums.{bounded_none, bounded_more, bounded_rest}
 use Rattle.tones.specs.Samples.{is_between, are_between, are_samples}
@@ -27,19 +26,14 @@ module _ (low high : ℤ) where
       ap (λ (b : Bool). is_between low high x && b) (between_append xs ys)
       ∙ sym (and_assoc (is_between low high x) (are_between low high xs) (are_between low high ys))
 
-  -- a loop that tests them one by one: `good` says if those before place k are in the range
-  module _ (xs : List ℤ) (k : ℕ) (good : Bool) (e : are_between low high xs ≡ (good && are_between low high (drop k xs))) where
-    pub tested_more : k < length xs
-        → are_between low high xs ≡ (good && is_between low high (get_or xs k (pos 0)) && are_between low high (drop (k + 1) xs))
-    unfolding are_between
-    tested_more h =
-        e
-        ∙ rw (add-one k, drop-cons xs k (pos 0) h)
-        (sym (and_assoc good (is_between low high (get_or xs k (pos 0))) (are_between low high (drop (suc k) xs))))
-
-    pub tested_all : length xs ≤ k → are_between low high xs ≡ good
-    unfolding are_between
-    tested_all h = e ∙ rw (drop_of_length-le xs {i = k} h) (and-true good)
+  -- a loop that tests them one by one, place k after those before it
+  pub between_more : (xs : List ℤ) (k : ℕ) → k < length xs
+      → are_between low high (take (k + 1) xs) ≡ (are_between low high (take k xs) && is_between low high (get_or xs k (pos 0)))
+  unfolding are_between
+  between_more xs k h =
+      rw (take_more xs k (pos 0) h)
+      (between_append (take k xs) (get_or xs k (pos 0) ∷ [])
+      ∙ ap (λ (b : Bool). are_between low high (take k xs) && b) (and-true (is_between low high (get_or xs k (pos 0)))))
 
 pub samples_append : (xs ys : List ℤ) → are_samples (xs ++ ys) ≡ (are_samples xs && are_samples ys)
 samples_append = between_append (negsuc 8190) (pos 8191)

@@ -1,6 +1,6 @@
 -- The bands and their tones: the specification, "Tones and sine" and "Both directions on one tap".
 -- Assumes nothing.
-use Rattle.std.specs.Prelude.{Bool, cond, ◌&&◌, ◌||◌, List, [], ◌∷◌, ℕ, zero, suc, ◌-◌, leb, eqb, length, get_or}
+use Rattle.std.specs.Prelude.{Bool, cond, ◌&&◌, ◌||◌, List, [], ◌∷◌, ℕ, zero, suc, ◌-◌, leb, eqb, length, get_or, Option, None, slice_get}
 use Rattle.tones.specs.declared.Tones.{Tones}
 
 -- band 1: 1,070 and 1,270 Hz
@@ -16,6 +16,11 @@ bands =
     ∷ record { space = 236; mark = 196 }
     ∷ record { space = 370; mark = 330 }
     ∷ []
+
+-- the row of a number
+unfoldable pub row : ℕ → Option Tones
+row zero = None
+row (suc n) = slice_get bands n
 
 -- a number of a row
 unfoldable pub is_band : ℕ → Bool

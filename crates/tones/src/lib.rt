@@ -2,7 +2,7 @@
 #![tactic(auto)]
 
 ghost use Rattle.std.specs.Prelude.{◌≡◌};
-ghost use Rattle.tones.specs.Bands.{is_band, is_pair, tones_of};
+ghost use Rattle.tones.specs.Bands.{row, is_band, is_pair, tones_of};
 ghost use Rattle.tones.specs.Samples.{is_between, are_between, are_samples};
 
 // The steps of the two tones. Neither is taken to be the larger.
@@ -35,32 +35,36 @@ const BANDS: [Tones; 4] = [
     },
 ];
 
+#[tactic(auto, using(crate::proofs::Laws::row_known))]
 pub fn is_band(band: u8) -> bool
     ensures { result ≡ is_band band }
 {
-    1 <= band && band as usize <= BANDS.len()
+    row(band).is_some()
 }
 
 // The bands are those of a line in both directions, in this order.
+#[tactic(auto, unfolding(crate::specs::Bands::is_pair))]
 pub fn is_pair(first: u8, second: u8) -> bool
     ensures { result ≡ is_pair first second }
 {
-    match first {
-        1 => second == 2,
-        3 => second == 4,
-        _ => false,
-    }
+    matches!((first, second), (1, 2) | (3, 4))
 }
 
 // The tones of a band, and those of band 1 for a number that is no band.
+#[tactic(auto, using(crate::proofs::Laws::row_tones))]
 pub fn tones_of(band: u8) -> Tones
     ensures { result ≡ tones_of band }
 {
-    if is_band(band) {
-        BANDS[band as usize - 1]
-    } else {
-        BANDS[0]
-    }
+    row(band).unwrap_or(BANDS[0])
+}
+
+// The row of a band, if the number is one.
+#[tactic(auto, unfolding(crate::specs::Bands::row, crate::specs::Bands::bands))]
+fn row(band: u8) -> Option<Tones>
+    ensures { result ≡ row band }
+{
+    let before = band.checked_sub(1)?;
+    BANDS.get(usize::from(before)).copied()
 }
 
 // Every number is a sample.
@@ -71,14 +75,13 @@ pub fn are_samples(xs: &[i16]) -> bool
 }
 
 // Every number is at least `low` and at most `high`. It goes on behind one that is not, so that the loop becomes vector code.
+#[tactic(auto, using(crate::proofs::Samples::between_more), unfolding(crate::specs::Samples::are_between))]
 pub fn are_between(xs: &[i16], low: i16, high: i16) -> bool
     ensures { result ≡ are_between low high xs.now }
 {
     let mut good = true;
-    let mut k: usize = 0;
-    while k < xs.len() {
-        good = good & is_between(xs[k], low, high);
-        k += 1;
+    for &x in xs {
+        good &= is_between(x, low, high);
     }
     good
 }
@@ -86,5 +89,5 @@ pub fn are_between(xs: &[i16], low: i16, high: i16) -> bool
 fn is_between(x: i16, low: i16, high: i16) -> bool
     ensures { result ≡ is_between low high x }
 {
-    low <= x && x <= high
+    (low..=high).contains(&x)
 }

@@ -1,14 +1,9 @@
--- `tones::are_between` meets its contract: each turn tests one number.
+-- `tones::are_between` meets its contract: the answer so far is that of the numbers so far.
 -- Assumes nothing.
 use mathlib.Core.Path.{◌≡◌}
-use mathlib.Core.Bool.{◌&&◌}
-use Prim.Native.Nat.{◌-◌, ◌≤◌}
-use lib.ListN.{length, drop}
+use lib.ListN.{take}
 use Rattle.tones.specs.Samples.{are_between}
 use Rattle.tones.proofs.are_between.Given as goal
 
-abbrev pub invariant-loop-k : goal.invariant-loop-k
-invariant-loop-k l = (l.k ≤ length l.xs) × (are_between l.low l.high l.xs ≡ (l.good && are_between l.low l.high (drop l.k l.xs)))
-
-abbrev pub decreases-loop-k : goal.decreases-loop-k
-decreases-loop-k l = length l.xs - l.k
+abbrev pub invariant-loop-x : goal.invariant-loop-x
+invariant-loop-x l = l.good ≡ are_between l.low l.high (take l.x-index l.xs)
