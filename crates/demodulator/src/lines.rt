@@ -13,7 +13,7 @@ pub(crate) fn put_events(out: &mut [u8], events: &[u16]) -> usize
     ensures count { result ≡ length (events_text events.now) }
     ensures lent { out.new ≡ over (events_text events.now) out.old }
 {
-    text::put_bytes(out, 0, b"number kind value\n");
+    calls::put(out, 0, b"number kind value\n");
     let mut at: usize = 18;
     let mut place: usize = 0;
     while place < events.len() {
@@ -43,22 +43,22 @@ fn put_fields(out: &mut [u8], at: usize, event: u16) -> usize
 {
     if event < 256 {
         let fields = char_fields(event as u8);
-        text::put_bytes(out, at, &fields);
+        calls::put(out, at, &fields);
         return at + 9;
     }
     if event == 256 {
-        text::put_bytes(out, at, b" nostop --\n");
+        calls::put(out, at, b" nostop --\n");
         return at + 11;
     }
     if event == 257 {
-        text::put_bytes(out, at, b" lost --\n");
+        calls::put(out, at, b" lost --\n");
         return at + 9;
     }
     if event == 258 {
-        text::put_bytes(out, at, b" break --\n");
+        calls::put(out, at, b" break --\n");
         return at + 10;
     }
-    text::put_bytes(out, at, b" doubt --\n");
+    calls::put(out, at, b" doubt --\n");
     at + 10
 }
 

@@ -1,19 +1,17 @@
--- Laws of numbers as text: the bytes that are digits, the digits of a number one by one, how many there are, and their places.
+-- Laws of numbers as text: the bytes that are digits, the digits of a number one by one, and how many there are.
 -- Assumes nothing.
-use mathlib.Core.Path.{◌≡◌, refl, sym, ap, ◌∙◌}
+use mathlib.Core.Path.{◌≡◌, refl, ap, ◌∙◌}
 use mathlib.Core.Bool.{true}
 use mathlib.Core.List.{List, [], ◌∷◌, ◌++◌}
 use mathlib.Mathlib.Data.Bool.Basic.{and_elim_left, and_elim_right, and_intro}
-use Prim.Native.Nat.{ℕ, zero, suc, ◌+◌, ◌*◌, ◌-◌, ◌^◌, ◌/◌, ◌%◌, ◌<◌, ◌≤◌}
+use Prim.Native.Nat.{ℕ, zero, suc, ◌+◌, ◌*◌, ◌^◌, ◌/◌, ◌%◌, ◌<◌, ◌≤◌}
 use native.Mathlib.Nat.{not-suc-le-zero, lt-suc_self, pow-succ'}
 use native.Mathlib.Omega.{arith}
 use borrow.Author.Tests.{leb-true, ltb-false, le-leb, lt-ltb, le-ltb}
 use lib.Dec.{leb, ltb}
-use lib.ListN.{length, set, replicate, length-append}
-use lib.Seq.{append_snoc, set-append_seam}
+use lib.ListN.{length, length-append}
 use Rattle.integers.proofs.Tests.{cond_both, lt_or_le}
-use Rattle.digits.specs.Numbers.{is_digit, decimal_in, decimal, digits_of, hexadecimal}
-use Rattle.digits.specs.declared.Digits.{Digits}
+use Rattle.digits.specs.Numbers.{is_digit, decimal_in, decimal, hexadecimal}
 
 -- ---- digits
 
@@ -70,30 +68,12 @@ length-decimal (suc k) n h =
     let e = length-decimal k (n / 10) (omega (arith, pow-succ' 10 (suc k))) in
     lt_or_le n 10 (λ l. omega (arith, length-small n l)) (λ l. omega (arith, length_more n l))
 
--- ---- digits in five places
+-- a tenth of a number of 16 bits
+pub few_digits : (n : ℕ) → n < 65536 → length (decimal (n / 10)) < 5
+few_digits n h = omega (arith, length-decimal 3 (n / 10) (omega arith))
 
--- one more behind those that there are
-placed : (ds : List ℕ) (d : ℕ) → length ds ≤ 4
-    → set (ds ++ replicate (5 - length ds) 0) (length ds) d ≡ ds ++ (d ∷ []) ++ replicate (5 - length (ds ++ (d ∷ []))) 0
-placed ds d h =
-    let before : 5 - length ds ≡ suc (4 - length ds) = omega arith in
-    let after : 5 - length (ds ++ (d ∷ [])) ≡ 4 - length ds = omega (arith, length-append ds (d ∷ [])) in
-    rw (before, after)
-    (set-append_seam ds 0 (replicate (4 - length ds) 0) d ∙ sym (append_snoc ds d (replicate (4 - length ds) 0)))
-
-pub digits_small : (n : ℕ) → n < 10 → record { bytes = (48 + n) ∷ 0 ∷ 0 ∷ 0 ∷ 0 ∷ []; len = 1 } ≡ digits_of n
-digits_small n h = rw (decimal-small n h)
-
--- the digits of a tenth of the number, and one more
-module _ (n : ℕ) (low : 10 ≤ n) (high : n < 100000) (front : Digits) (e : front ≡ digits_of (n / 10)) where
-  pub digits_place : front.len < 5
-  digits_place = omega (arith, ap (λ (d : Digits). d.len) e, length-decimal 3 (n / 10) (omega arith))
-
-  pub digits_more : record { bytes = set front.bytes front.len (48 + n % 10); len = front.len + 1 } ≡ digits_of n
-  digits_more =
-      let ds = decimal (n / 10) in
-      let d = 48 + n % 10 in
-      rw (e, decimal-more n low, placed ds d (length-decimal 3 (n / 10) (omega arith)), length-append ds (d ∷ []))
+-- for the search of the check: the digits of a tenth and one more, of which there are at most five
+pub ruleset by_tenth = (decimal-small, decimal-more, few_digits)
 
 -- ---- hexadecimal
 

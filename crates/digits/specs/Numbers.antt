@@ -1,7 +1,6 @@
 -- Numbers as text, in ASCII codes: the digits of the specification, "Sheet and programs".
 -- Assumes nothing.
-use Rattle.std.specs.Prelude.{Bool, cond, ◌&&◌, List, [], ◌∷◌, ◌++◌, ℕ, zero, suc, ◌+◌, ◌-◌, ◌/◌, ◌%◌, leb, ltb, length, replicate}
-use Rattle.digits.specs.declared.Digits.{Digits}
+use Rattle.std.specs.Prelude.{Bool, cond, ◌&&◌, List, [], ◌∷◌, ◌++◌, ℕ, zero, suc, ◌+◌, ◌/◌, ◌%◌, leb, ltb}
 
 -- `0` to `9`
 abbrev pub is_digit : ℕ → Bool
@@ -15,10 +14,6 @@ decimal_in (suc k) n = cond (ltb n 10) ((48 + n) ∷ []) (decimal_in k (n / 10) 
 -- n itself is such a bound, with one to spare
 unfoldable pub decimal : ℕ → List ℕ
 decimal n = decimal_in (suc n) n
-
--- a number of 16 bits in five places, with zeros behind its digits
-abbrev pub digits_of : ℕ → Digits
-digits_of n = record { bytes = decimal n ++ replicate (5 - length (decimal n)) 0; len = length (decimal n) }
 
 -- `0` to `9`, then `a` to `f`
 abbrev pub hex_digit : ℕ → ℕ

@@ -1,16 +1,16 @@
--- A refusal's lines as they are put, part by part, and what a caller is told of a buffer in which there was room.
+-- A refusal's lines, their length, and what a caller is told of a buffer in which there was room.
 -- Assumes nothing.
 use mathlib.Core.Path.{◌≡◌, sym, ap, ◌∙◌}
-use mathlib.Core.List.{List, [], ◌∷◌, ◌++◌}
+use mathlib.Core.List.{List, [], ◌∷◌}
 use Prim.Native.Nat.{ℕ, ◌+◌, ◌<◌, ◌≤◌}
 use native.Mathlib.Omega.{arith}
 use lib.ListN.{length, take, drop, length-append}
 use lib.Seq.{sets, take_at}
-use Rattle.integers.proofs.Lists.{sets_append, sets-front}
+use Rattle.integers.proofs.Lists.{sets-front}
 use Rattle.calls.specs.Outcome.{over}
 use Rattle.digits.specs.Numbers.{decimal}
 use Rattle.digits.proofs.Numbers.{length-decimal}
-use Rattle.printing.specs.Printing.{refused_line, refusal_lines, Front}
+use Rattle.printing.specs.Printing.{refusal_lines, Front}
 
 -- ---- a refusal
 
@@ -19,14 +19,8 @@ module _ (number : ℕ) where
   unfolding refusal_lines
   refusal-length = omega (arith, length-append (decimal number) (10 ∷ []))
 
-  -- the number between the first line and the last line feed
-  pub refusal-parts : (lent : List ℕ)
-      → sets (sets (sets lent 0 refused_line) 8 (decimal number)) (8 + length (decimal number)) (10 ∷ []) ≡ sets lent 0 (refusal_lines number)
-  unfolding refusal_lines
-  refusal-parts lent =
-      sym
-      (sets_append lent 0 refused_line (decimal number ++ (10 ∷ []))
-      ∙ sets_append (sets lent 0 refused_line) 8 (decimal number) (10 ∷ []))
+  pub few_digits : number < 256 → length (decimal number) ≤ 3
+  few_digits h = length-decimal 2 number (omega arith)
 
   -- 12 places are enough for a number of three digits
   pub refusal-over : (lent : List ℕ) → number < 1000 → 12 ≤ length lent → sets lent 0 (refusal_lines number) ≡ over (refusal_lines number) lent

@@ -19,7 +19,7 @@ pub fn write(band: u8, samples: &[i16], out: &mut [u8]) -> Answer
         return Answer { number, count: 0 };
     }
     let head = sheet::head_of(48 + band);
-    text::put_bytes(out, 0, &head);
+    calls::put(out, 0, &head);
     let count = writer::put_lines(out, samples);
     Answer { number: 0, count }
 }

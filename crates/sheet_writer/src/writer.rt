@@ -53,7 +53,7 @@ fn put_line(out: &mut [u8], at: usize, sample: i16) -> usize
 {
     let n = digits::magnitude(sample);
     if sample < 0 {
-        text::put_bytes(out, at, b"-");
+        calls::put(out, at, b"-");
         return put_number(out, at + 1, n);
     }
     put_number(out, at, n)
@@ -66,7 +66,7 @@ fn put_number(out: &mut [u8], at: usize, n: u16) -> usize
     ensures lent { out.new ≡ sets out.old at (decimal n ++ (10 ∷ [])) }
 {
     let len = text::put_decimal(out, at, n);
-    text::put_bytes(out, at + len, b"\n");
+    calls::put(out, at + len, b"\n");
     at + len + 1
 }
 
@@ -89,8 +89,8 @@ fn line_len(sample: i16) -> usize
 {
     let digits = digits::decimal(digits::magnitude(sample));
     if sample < 0 {
-        digits.len + 2
+        digits.len() + 2
     } else {
-        digits.len + 1
+        digits.len() + 1
     }
 }

@@ -1,17 +1,16 @@
 -- Laws of the front of a text.
 -- Assumes nothing.
-use mathlib.Core.Path.{◌≡◌, refl, ap, ◌∙◌}
-use mathlib.Core.Bool.{true, false, ◌&&◌, and-false, false≢true}
+use mathlib.Core.Path.{◌≡◌, refl, ap}
+use mathlib.Core.Bool.{Bool, true, false, ◌&&◌, and-false, false≢true}
 use mathlib.Core.List.{List, [], ◌∷◌, ◌++◌}
 use mathlib.Mathlib.Data.Bool.Basic.{and_elim_left, and_elim_right, and_intro}
-use Prim.Native.Nat.{ℕ, suc, ◌+◌, ◌<◌, ◌≤◌}
+use Prim.Native.Nat.{ℕ, ◌<◌, ◌≤◌}
 use native.Mathlib.Nat.{not-suc-le-zero, le_of_suc-le-suc}
-use native.Mathlib.Numerals.{add-one}
 use native.Mathlib.Omega.{arith}
-use borrow.Author.Tests.{eqb-true, eq-eqb, ne_eqb}
+use borrow.Author.Tests.{eqb-true, eq-eqb}
 use lib.Dec.{eqb}
-use lib.ListN.{length, get_or, drop, length-append, drop_of_length-le}
-use lib.Seq.{drop-cons}
+use lib.ListN.{length, take, drop, length-append}
+use lib.Pointwise.{pointwise}
 use Rattle.text.specs.Bytes.{starts_with}
 
 -- such a text is its front and the rest
@@ -32,27 +31,16 @@ starts_append (x ∷ xs) t = and_intro (eq-eqb x x refl) (starts_append xs t)
 pub starts_long : (xs t : List ℕ) → starts_with xs t ≡ true → length xs ≤ length t
 starts_long xs t h = omega (arith, ap length (starts_cut xs t h), length-append xs (drop (length xs) t))
 
--- ---- a loop that compares the bytes one by one
-
+-- a text that is shorter begins otherwise
 pub starts_short : (xs t : List ℕ) → length t < length xs → starts_with xs t ≡ false
 unfolding starts_with
 starts_short [] t h = absurd (not-suc-le-zero h)
 starts_short (x ∷ xs) [] h = refl
 starts_short (x ∷ xs) (y ∷ t) h = rw (starts_short xs t (le_of_suc-le-suc h)) (and-false (eqb x y))
 
-module _ (xs t : List ℕ) (i : ℕ) where
-  step : i < length xs → i < length t
-      → starts_with (drop i xs) (drop i t) ≡ (eqb (get_or xs i 0) (get_or t i 0) && starts_with (drop (suc i) xs) (drop (suc i) t))
-  unfolding starts_with
-  step h g = rw (drop-cons xs i 0 h, drop-cons t i 0 g)
-
-  pub starts_same : i < length xs → i < length t → get_or xs i 0 ≡ get_or t i 0
-      → starts_with (drop i xs) (drop i t) ≡ starts_with (drop (i + 1) xs) (drop (i + 1) t)
-  starts_same h g e = step h g ∙ rw (eq-eqb (get_or xs i 0) (get_or t i 0) e, add-one i)
-
-  pub starts_other : i < length xs → i < length t → (get_or xs i 0 ≡ get_or t i 0 → ⊥) → starts_with (drop i xs) (drop i t) ≡ false
-  starts_other h g n = step h g ∙ rw (ne_eqb (get_or xs i 0) (get_or t i 0) n)
-
-  pub starts_all : length xs ≤ i → starts_with (drop i xs) (drop i t) ≡ true
-  unfolding starts_with
-  starts_all h = rw (drop_of_length-le xs {i = i} h)
+-- the library's test, which compares the front byte by byte
+pub starts_pointwise : (xs t : List ℕ) → starts_with xs t ≡ pointwise eqb xs (take (length xs) t)
+unfolding starts_with
+starts_pointwise [] t = refl
+starts_pointwise (x ∷ xs) [] = refl
+starts_pointwise (x ∷ xs) (y ∷ t) = ap (λ (b : Bool). eqb x y && b) (starts_pointwise xs t)

@@ -42,7 +42,7 @@ unfolding write_of
 returns c =
     let a = c.args in
     let w = allowed a.band a.samples.now (length a.out.now) _ c.refusal-number.ensures (omega arith) in
-    let headed = c.put_bytes.ensures ∙ ap (sets a.out.now 0) c.head_of-head.ensures in
+    let headed = c.put.ensures ∙ ap (sets a.out.now 0) c.head_of-head.ensures in
     let p = c.put_lines-count.ensures in
     let count = p.count ∙ sym (length_sheet a.band a.samples.now) in
     let lent =

@@ -12,7 +12,7 @@ use Rattle.demodulator.proofs.Printed.{text-most, text-parts, printed_start, pri
 use Rattle.demodulator.proofs.lines.put_events.Goals as goal
 
 pub loop-place-init : goal.loop-place-init
-loop-place-init c = (zero-le, printed_start c.put_bytes.new.out _)
+loop-place-init c = (zero-le, printed_start c.put.new.out _)
 
 pub put_event-at-requires : goal.put_event-at-requires
 put_event-at-requires c = record {
@@ -27,7 +27,7 @@ loop-place-preserved c =
 
 pub shape_of-out : goal.shape_of-out
 shape_of-out c =
-    c.loop-place.invariant.1.filled.long ∙ ap length c.put_bytes.ensures ∙ length-sets c.args.out.now 0 names_line
+    c.loop-place.invariant.1.filled.long ∙ ap length c.put.ensures ∙ length-sets c.args.out.now 0 names_line
 
 pub returns : goal.returns
 returns c =
@@ -39,6 +39,6 @@ returns c =
       count = printed_count _ _ _ _ _ l.invariant.1 c.loop-place-test.false;
       lent =
           end
-          ∙ ap (λ (lent : List ℕ). sets lent 18 (event_lines 0 events)) c.put_bytes.ensures
+          ∙ ap (λ (lent : List ℕ). sets lent 18 (event_lines 0 events)) c.put.ensures
           ∙ text-parts events out (omega (arith, c.requires.most_printed_in_bounds, most));
     }

@@ -12,7 +12,7 @@ pub returns-then-event-lt256 : goal.returns-then-event-lt256
 returns-then-event-lt256 c =
     let a = c.args in record {
       place = ap (λ (n : ℕ). a.at + n) (char_length a.event c.if-event-lt256.true);
-      lent = c.put_bytes.ensures ∙ ap (sets a.out.now a.at) c.char_fields-fields.ensures;
+      lent = c.put.ensures ∙ ap (sets a.out.now a.at) c.char_fields-fields.ensures;
     }
 
 pub returns : goal.returns
@@ -20,4 +20,4 @@ returns c =
     let e = last_row c.args.event
     (omega (arith, c.if-event-lt256.false, c.if-event-eq256.false, c.if-event-eq257.false, c.if-event-eq258.false))
     c.requires.event_value in
-    rw e (record { place = refl; lent = c.put_bytes-2.ensures })
+    rw e (record { place = refl; lent = c.put-2.ensures })

@@ -33,7 +33,7 @@ returns-then-sample-lt0 c =
       place = omega (arith, p.place, ap length minus);
       lent =
           p.lent
-          ∙ ap (λ (l : List ℕ). sets l (a.at + 1) number) c.put_bytes.ensures
+          ∙ ap (λ (l : List ℕ). sets l (a.at + 1) number) c.put.ensures
           ∙ sym (sets_append a.out.now a.at (45 ∷ []) number)
           ∙ ap (sets a.out.now a.at) (sym minus);
     }

@@ -31,7 +31,7 @@ returns c =
     record {
       place = omega (arith, l);
       lent =
-          c.put_bytes.ensures
+          c.put.ensures
           ∙ ap₂ (λ (l : List ℕ) (n : ℕ). sets l (a.at + n) (10 ∷ [])) p.lent p.count
           ∙ sym (sets_append a.out.now a.at (decimal a.n) (10 ∷ []));
     }
