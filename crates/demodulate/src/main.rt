@@ -1,22 +1,22 @@
 // Prints the events of the sheet on standard input, one to a line.
 #![tactic(auto)]
 
-use streams::Plain;
+use streams::Failure;
 
 fn main(rt: HostRuntime) {
-    // What is behind these bytes changes nothing that is printed: `CutInput` of `demodulator`.
-    let mut text = [0u8; demodulator::MOST_INPUT];
-    let read = streams::read_all(&rt, &mut rt.stdin(), &mut text);
     // A failure is told on standard error alone; the exit status is 0 then too. Nobody could be told that this failed.
-    if let Some(error) = &read.error {
-        let _ = eprintln!(rt; "demodulate: standard input: {}", Plain(error));
-        return;
+    if let Err(failure) = run(&rt) {
+        let _ = eprintln!(rt; "demodulate: {failure}");
     }
-    let n = read.count;
-    let mut out = [0u8; demodulator::MOST_PRINTED];
-    let len = demodulator::demodulate(&text[..n], &mut out);
-    let written = streams::write_all(&rt, &mut rt.stdout(), &out[..len]);
-    if let Some(error) = &written.error {
-        let _ = eprintln!(rt; "demodulate: standard output: {}", Plain(error));
-    }
+}
+
+// A function for both programs would take `demodulate` as a closure, and so require that it may be called; public functions require nothing.
+fn run(rt: &HostRuntime) -> Result<(), Failure> {
+    // What is behind these bytes changes nothing that is printed: `CutInput` of `demodulator`.
+    let mut input = [0u8; demodulator::MOST_INPUT];
+    let read = streams::read_all(rt, &mut rt.stdin(), &mut input).map_err(Failure::Input)?;
+    let mut output = [0u8; demodulator::MOST_PRINTED];
+    let made = demodulator::demodulate(&input[..read], &mut output);
+    streams::write_all(rt, &mut rt.stdout(), &output[..made])?;
+    Ok(())
 }

@@ -1,21 +1,21 @@
 // Prints the sheet of a message: standard input is a band digit and the characters behind it.
 #![tactic(auto)]
 
-use streams::Plain;
+use streams::Failure;
 
 fn main(rt: HostRuntime) {
-    let mut input = [0u8; modulator::MOST_INPUT];
-    let read = streams::read_all(&rt, &mut rt.stdin(), &mut input);
     // A failure is told on standard error alone; the exit status is 0 then too. Nobody could be told that this failed.
-    if let Some(error) = &read.error {
-        let _ = eprintln!(rt; "modulate: standard input: {}", Plain(error));
-        return;
+    if let Err(failure) = run(&rt) {
+        let _ = eprintln!(rt; "modulate: {failure}");
     }
-    let n = read.count;
-    let mut out = [0u8; sheet::MOST_BYTES];
-    let len = modulator::modulate(&input[..n], &mut out);
-    let written = streams::write_all(&rt, &mut rt.stdout(), &out[..len]);
-    if let Some(error) = &written.error {
-        let _ = eprintln!(rt; "modulate: standard output: {}", Plain(error));
-    }
+}
+
+// A function for both programs would take `modulate` as a closure, and so require that it may be called; public functions require nothing.
+fn run(rt: &HostRuntime) -> Result<(), Failure> {
+    let mut input = [0u8; modulator::MOST_INPUT];
+    let read = streams::read_all(rt, &mut rt.stdin(), &mut input).map_err(Failure::Input)?;
+    let mut output = [0u8; sheet::MOST_BYTES];
+    let made = modulator::modulate(&input[..read], &mut output);
+    streams::write_all(rt, &mut rt.stdout(), &output[..made])?;
+    Ok(())
 }
