@@ -7,6 +7,7 @@ use Prim.Native.Nat.{ℕ}
 use native.Mathlib.Omega.{arith}
 use lib.IntN.{ℤ, pos}
 use lib.ListN.{take, drop}
+use Rattle.std.specs.Prelude.{Some}
 use Rattle.integers.specs.Near.{Near}
 use Rattle.integers.proofs.Near.{near_self}
 use Rattle.calls.specs.Runs.{after, gives}
@@ -25,9 +26,8 @@ use Rattle.control.specs.declared.Control.{Control}
 use Rattle.control.specs.Ranges.{is_slot, is_stage, is_control}
 use Rattle.control.specs.Rules.{break_begun, numbers, quiet, hold_break, run_after, next_of}
 use Rattle.control.proofs.Rules.{control-after, events-reported, held_on, wait_taken, stop-break}
-use Rattle.control.proofs.Ranges.{control-stage}
+use Rattle.control.proofs.Ranges.{control_stage}
 use Rattle.control.proofs.Events.{break-only}
-use Rattle.quality.specs.declared.Difference.TheVariants.{Of}
 use Rattle.quality.specs.Quality.{is_kept}
 use Rattle.receiver.specs.declared.Receiver.{Receiver}
 use Rattle.receiver.specs.Energy.{decision_of}
@@ -74,7 +74,7 @@ told-exactly s x h = (only, λ b. events_with s x hold_break (break-next s x b))
 
     only : events_at s x ≡ break_begun ∷ [] → BeginsBreak s x
     only e =
-        let k = break-only s.stage (run_after s.run d.good) d (control-stage (control_of s) (in_range_lem s h).control)
+        let k = break-only s.stage (run_after s.run d.good) d (control_stage (control_of s) (in_range_lem s h).control)
         (sym (events_with s x _ refl) ∙ e) in
         record { stop = k.0; good = k.1; space = k.2 }
 
@@ -133,7 +133,7 @@ module _ (band : ℕ) (known : is_band band ≡ true) where
   tones = tones_of band
 
   abbrev state : Receiver
-  state = record { band = band; window = wave 32 tones.space 0; run = 32; stage = Waiting 1 9 0; smallest = Of (pos 0) }
+  state = record { band = band; window = wave 32 tones.space 0; run = 32; stage = Waiting 1 9 0; smallest = Some (pos 0) }
 
   abbrev sample : ℤ
   sample = S (phase_after_bit tones 0 0)

@@ -16,16 +16,32 @@ use Rattle.integers.proofs.Tests.{cond_case, cond-split, or_case}
 use Rattle.calls.specs.Runs.{gives}
 use Rattle.control.specs.declared.Bit.TheVariants.{Space, Doubtful}
 use Rattle.control.specs.declared.Decision.{Decision}
+use Rattle.control.specs.declared.event.Event.{Event}
+use Rattle.control.specs.declared.event.Event.TheVariants.{Character, NoStop, CarrierLost, Break, DoubtfulBit}
 use Rattle.control.specs.declared.Next.{Next}
 use Rattle.control.specs.declared.Stage.{Stage}
 use Rattle.control.specs.declared.Stage.TheVariants.{Searching, Waiting, Held}
 use Rattle.control.specs.declared.Control.{Control}
 use Rattle.control.specs.Ranges.{is_slot, is_stage, is_control}
-use Rattle.control.specs.Rules.{no_stop, carrier_lost, break_begun, bit_doubtful, is_event, numbers, run_after, taken, next_of, moved_by, control_after, reported, reports}
+use Rattle.control.specs.Rules.{no_stop, carrier_lost, break_begun, bit_doubtful, is_event, event_number, numbers, run_after, taken, next_of, moved_by, control_after, reported, reports}
 use Rattle.control.proofs.Rules.{taken_case}
-use Rattle.control.proofs.Ranges.{wait_low, slot-most, slot-below, stage_wait, stage-slot, control-stage, control_kept}
+use Rattle.control.proofs.Ranges.{wait_low, slot-most, slot_below, stage_wait, stage-slot, control_stage, control_kept}
 
 -- ---- the events
+
+-- every byte is one
+byte-known : (byte : ℕ) → byte < 256 → is_event byte ≡ true
+unfolding is_event
+byte-known byte l = rw (lt-ltb byte 256 l) refl
+
+-- the number of every event is one, where a character is a byte
+pub number_known : (event : Event) → ((byte : ℕ) → event ≡ Character byte → byte < 256) → is_event (event_number event) ≡ true
+unfolding is_event
+number_known (Character byte) h = byte-known byte (h byte refl)
+number_known NoStop h = refl
+number_known CarrierLost h = refl
+number_known Break h = refl
+number_known DoubtfulBit h = refl
 
 -- what holds of the characters and of each other event holds of every event
 pub event_case : (P : ℕ → Type 0) → ((n : ℕ) → n < 256 → P n) → P no_stop → P carrier_lost → P break_begun → P bit_doubtful
@@ -49,11 +65,7 @@ byte-below : (slot byte : ℕ) → (slot ≡ 0 → ⊥) → is_slot slot byte �
 byte-below slot byte nz h =
     let nine : slot ≤ 9 = slot-most slot byte h in
     let most : 2 ^ (slot - 1) ≤ 256 = pow_mono {i = slot - 1} {j = 8} (omega arith) in
-    omega (arith, slot-below slot byte nz h, most)
-
-byte-known : (byte : ℕ) → byte < 256 → is_event byte ≡ true
-unfolding is_event
-byte-known byte l = rw (lt-ltb byte 256 l) refl
+    omega (arith, slot_below slot byte nz h, most)
 
 taken-known : (slot byte : ℕ) (d : Decision) → is_slot slot byte ≡ true → Tells (taken slot byte d)
 unfolding is_event
@@ -79,7 +91,7 @@ next_known Held run d h = none
 
 pub reported-known : (c : Control) (d : Decision) → is_control c ≡ true → Known (reported c d)
 unfolding reported moved_by
-reported-known c d h = next_known c.stage (run_after c.run d.good) d (control-stage c h)
+reported-known c d h = next_known c.stage (run_after c.run d.good) d (control_stage c h)
 
 pub reports-known : (c : Control) (ds : List Decision) → is_control c ≡ true → Known (reports c ds)
 unfolding gives

@@ -47,9 +47,9 @@ unfolding is_slot
 slot-most slot byte h = leb-true slot 9 (and_elim_left (leb slot 9) _ h)
 
 -- the byte is below the weight of the next data bit
-pub slot-below : (slot byte : ℕ) → (slot ≡ 0 → ⊥) → is_slot slot byte ≡ true → byte < 2 ^ (slot - 1)
+pub slot_below : (slot byte : ℕ) → (slot ≡ 0 → ⊥) → is_slot slot byte ≡ true → byte < 2 ^ (slot - 1)
 unfolding is_slot
-slot-below slot byte nz h =
+slot_below slot byte nz h =
     cond-split (λ (b : Bool). b ≡ true → byte < 2 ^ (slot - 1)) (ltb slot 2) (eqb byte 0) (ltb byte (2 ^ (slot - 1)))
     (λ l e.
     let k : slot < 2 = ltb-true slot 2 l in
@@ -101,7 +101,7 @@ taken_kept slot byte d h =
       start = λ z. refl;
       no_start = λ z. refl;
       level_lost = λ nz. refl;
-      bit = λ nz l bit b. and_intro (wait_32 slot) (slot_next slot byte bit nz l b (slot-below slot byte nz h));
+      bit = λ nz l bit b. and_intro (wait_32 slot) (slot_next slot byte bit nz l b (slot_below slot byte nz h));
       doubt = λ nz g e. refl;
       break = λ l g e z. refl;
       no_stop_told = λ l. refl;
@@ -121,9 +121,9 @@ next_kept Held run d h = cond_case (λ (s : Stage). is_stage s ≡ true) (ends_b
 
 -- ---- run and stage
 
-pub control-stage : (c : Control) → is_control c ≡ true → is_stage c.stage ≡ true
+pub control_stage : (c : Control) → is_control c ≡ true → is_stage c.stage ≡ true
 unfolding is_control
-control-stage c h = and_elim_right (leb c.run 32) (is_stage c.stage) h
+control_stage c h = and_elim_right (leb c.run 32) (is_stage c.stage) h
 
 pub control-run : (c : Control) → is_control c ≡ true → c.run ≤ 32
 unfolding is_control
@@ -136,7 +136,7 @@ pub control_kept : (c : Control) (d : Decision) → is_control c ≡ true → is
 unfolding is_control control_after moved_by
 control_kept c d h =
     let run : ℕ = run_after c.run d.good in
-    and_intro (le-leb run 32 (run_kept c.run d.good)) (next_kept c.stage run d (control-stage c h))
+    and_intro (le-leb run 32 (run_kept c.run d.good)) (next_kept c.stage run d (control_stage c h))
 
 pub follow_kept : (c : Control) (ds : List Decision) → is_control c ≡ true → is_control (follow c ds) ≡ true
 unfolding after

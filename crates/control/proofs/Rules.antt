@@ -1,8 +1,8 @@
 -- The cases of the rules, each an equation under the tests that lead to it.
 -- Assumes nothing.
 use mathlib.Core.Path.{◌≡◌, refl, ap, ◌∙◌}
-use mathlib.Core.Bool.{Bool, true, false, cond, not, ◌&&◌, and-false, beq, false≢true, true≢false}
-use Prim.Native.Nat.{ℕ, zero, suc, ◌+◌, ◌-◌, ◌*◌, ◌^◌, ◌<◌, ◌≤◌}
+use mathlib.Core.Bool.{Bool, true, false, cond, not, ◌&&◌, and-false, beq}
+use Prim.Native.Nat.{ℕ, zero, suc, ◌-◌, ◌<◌, ◌≤◌}
 use native.Mathlib.Omega.{arith}
 use borrow.Author.Tests.{le-leb, lt-leb, eq-eqb, ne_eqb, leb-true, leb-false, eqb-true, eqb-false, not-false}
 use lib.Dec.{leb, eqb}
@@ -12,13 +12,14 @@ use Rattle.control.specs.declared.Bit.TheVariants.{Mark, Space, Doubtful}
 use Rattle.control.specs.declared.Decision.{Decision}
 use Rattle.control.specs.declared.Asked.{Asked}
 use Rattle.control.specs.declared.Asked.TheVariants.{Tone, Slot}
+use Rattle.control.specs.declared.event.Event.TheVariants.{Character, NoStop, CarrierLost, DoubtfulBit}
 use Rattle.control.specs.declared.Next.{Next}
 use Rattle.control.specs.declared.Stage.{Stage}
 use Rattle.control.specs.declared.Stage.TheVariants.{Searching, Waiting, Held}
 use Rattle.control.specs.declared.Control.{Control}
 use Rattle.control.specs.Ranges.{is_slot}
-use Rattle.control.specs.Rules.{no_stop, carrier_lost, bit_doubtful, numbers, quiet, report, hold_break, ends_break, run_after, bit_of, gathered, stop_missed, bit_taken, taken, next_of, moved_by, control_after, reported}
-use Rattle.control.specs.AsCoded.{is_doubt, is_mark, with_bit, is_found, asked_by, wait_over}
+use Rattle.control.specs.Rules.{numbers, quiet, report, hold_break, ends_break, run_after, bit_of, gathered, bit_taken, taken, next_of, moved_by, control_after, reported}
+use Rattle.control.specs.AsCoded.{is_found, asked_by, wait_over}
 
 -- ---- the run
 
@@ -42,7 +43,7 @@ module _ (byte : ℕ) (d : Decision) where
     start_mark g s = simp (z, g, s)
 
   module _ (slot : ℕ) (nz : slot ≡ 0 → ⊥) where
-    pub lost : d.good ≡ false → taken slot byte d ≡ report carrier_lost
+    pub lost : d.good ≡ false → taken slot byte d ≡ report CarrierLost
     unfolding taken
     lost g = simp (ne_eqb slot 0 nz, g)
 
@@ -62,44 +63,22 @@ module _ (byte : ℕ) (d : Decision) where
     pub stop-break : d.good ≡ true → 8 < slot → d.bit ≡ Space → byte ≡ 0 → taken slot byte d ≡ hold_break
     stop-break g h e b = bit_taken_good g ∙ simp (e, lt-leb slot 8 h, eq-eqb byte 0 b)
 
-    pub stop_mark : d.good ≡ true → 8 < slot → d.bit ≡ Mark → taken slot byte d ≡ report byte
+    pub stop_mark : d.good ≡ true → 8 < slot → d.bit ≡ Mark → taken slot byte d ≡ report (Character byte)
     stop_mark g h e = bit_taken_good g ∙ simp (e, lt-leb slot 8 h)
 
-    pub doubt_taken : d.good ≡ true → d.bit ≡ Doubtful → taken slot byte d ≡ report bit_doubtful
+    pub doubt_taken : d.good ≡ true → d.bit ≡ Doubtful → taken slot byte d ≡ report DoubtfulBit
     doubt_taken g e = bit_taken_good g ∙ rw e
-
--- the bit in the parts that the code has
-module _ (slot byte : ℕ) where
-  pub bit_doubt : (bit : Bit) → is_doubt bit ≡ true → bit_taken slot byte bit ≡ report bit_doubtful
-  bit_doubt Doubtful d = refl
-  bit_doubt Mark d = absurd (false≢true d)
-  bit_doubt Space d = absurd (false≢true d)
-
-  pub bit_data : (bit : Bit) → is_doubt bit ≡ false → slot ≤ 8 → bit_taken slot byte bit ≡ quiet (Waiting 32 (slot + 1) (with_bit slot byte bit))
-  bit_data Doubtful d h = absurd (true≢false d)
-  bit_data Mark d h = let e : byte + 2 ^ (slot - 1) * 1 ≡ byte + 2 ^ (slot - 1) = omega arith in simp (le-leb slot 8 h, e)
-  bit_data Space d h = let e : byte + 2 ^ (slot - 1) * 0 ≡ byte = omega arith in simp (le-leb slot 8 h, e)
-
-  pub bit_stop : (bit : Bit) → 8 < slot → is_mark bit ≡ true → bit_taken slot byte bit ≡ report byte
-  bit_stop Doubtful h m = absurd (false≢true m)
-  bit_stop Mark h m = rw (lt-leb slot 8 h)
-  bit_stop Space h m = absurd (false≢true m)
-
-  pub bit_no_stop : (bit : Bit) → is_doubt bit ≡ false → 8 < slot → is_mark bit ≡ false → bit_taken slot byte bit ≡ stop_missed byte
-  bit_no_stop Doubtful d h m = absurd (true≢false d)
-  bit_no_stop Mark d h m = absurd (true≢false m)
-  bit_no_stop Space d h m = rw (lt-leb slot 8 h)
 
 -- What holds in every case of a slot that is taken holds of what it comes to.
 pub record Cases (P : Next → Type 0) (slot byte : ℕ) (d : Decision) : Type 0 where
   pub start : slot ≡ 0 → P (quiet (Waiting 32 1 0))
   pub no_start : slot ≡ 0 → P (quiet Searching)
-  pub level_lost : (slot ≡ 0 → ⊥) → P (report carrier_lost)
+  pub level_lost : (slot ≡ 0 → ⊥) → P (report CarrierLost)
   pub bit : (slot ≡ 0 → ⊥) → slot ≤ 8 → (bit : ℕ) → bit < 2 → P (gathered slot byte bit)
-  pub doubt : (slot ≡ 0 → ⊥) → d.good ≡ true → d.bit ≡ Doubtful → P (report bit_doubtful)
+  pub doubt : (slot ≡ 0 → ⊥) → d.good ≡ true → d.bit ≡ Doubtful → P (report DoubtfulBit)
   pub break : 8 < slot → d.good ≡ true → d.bit ≡ Space → byte ≡ 0 → P hold_break
-  pub no_stop_told : 8 < slot → P (report no_stop)
-  pub character : 8 < slot → P (report byte)
+  pub no_stop_told : 8 < slot → P (report NoStop)
+  pub character : 8 < slot → P (report (Character byte))
 
 module _ (P : Next → Type 0) (slot byte : ℕ) (d : Decision) (c : Cases P slot byte d) where
   bit_case : (slot ≡ 0 → ⊥) → d.good ≡ true → (b : Bit) → d.bit ≡ b → P (bit_taken slot byte b)

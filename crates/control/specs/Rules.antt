@@ -1,22 +1,24 @@
 -- What a decision does to run and stage, and its event: the specification, "Reader, step by step", rules 3 to 6, as decision 17 reads
 -- them, "A held break key" and "Doubtful bits".
 -- Assumes nothing.
-use Rattle.std.specs.Prelude.{Bool, cond, not, ◌&&◌, ◌||◌, List, [], ◌∷◌, ℕ, zero, suc, ◌+◌, ◌-◌, ◌*◌, ◌^◌, min, ltb, leb, eqb}
+use Rattle.std.specs.Prelude.{◌≡◌, Bool, false, cond, not, ◌&&◌, ◌||◌, List, [], ◌∷◌, ℕ, zero, suc, ◌+◌, ◌-◌, ◌*◌, ◌^◌, min, ltb, leb, eqb, Option, Some, None, Result, MatchResult}
 use Rattle.calls.specs.Runs.{after, gives}
 use Rattle.control.specs.declared.Bit.{Bit}
 use Rattle.control.specs.declared.Bit.TheVariants.{Mark, Space, Doubtful}
 use Rattle.control.specs.declared.Decision.{Decision}
 use Rattle.control.specs.declared.Stage.{Stage}
 use Rattle.control.specs.declared.Stage.TheVariants.{Searching, Waiting, Held}
-use Rattle.control.specs.declared.Event.{Event}
-use Rattle.control.specs.declared.Event.TheVariants.{Nothing, Number}
+use Rattle.control.specs.declared.event.Event.{Event}
+use Rattle.control.specs.declared.event.Event.TheVariants.{Character, NoStop, CarrierLost, Break, DoubtfulBit}
+use Rattle.control.specs.declared.event.NoEvent.{NoEvent}
 use Rattle.control.specs.declared.Next.{Next}
 use Rattle.control.specs.declared.Control.{Control}
 use Rattle.control.specs.declared.Moved.{Moved}
 
 -- ---- events
 
--- an event below 256 is a character, 256 one without a stop bit, 257 a lost carrier, 258 a break, and 259 a doubtful bit
+-- an event's number is below 256 for a character, 256 for one without a stop bit, 257 for a lost carrier, 258 for a break, and 259 for a
+-- doubtful bit
 abbrev pub no_stop : ℕ
 no_stop = 256
 
@@ -29,24 +31,35 @@ break_begun = 258
 abbrev pub bit_doubtful : ℕ
 bit_doubtful = 259
 
--- every event is one of these (proofs/Events)
+-- the number of every event is one of these (proofs/Events)
 unfoldable pub is_event : ℕ → Bool
 is_event n = ltb n 256 || (eqb n no_stop || (eqb n carrier_lost || (eqb n break_begun || eqb n bit_doubtful)))
 
--- the numbers of an event
-abbrev pub numbers : Event → List ℕ
-numbers Nothing = []
-numbers (Number n) = n ∷ []
+abbrev pub event_number : Event → ℕ
+event_number (Character byte) = byte
+event_number NoStop = no_stop
+event_number CarrierLost = carrier_lost
+event_number Break = break_begun
+event_number DoubtfulBit = bit_doubtful
+
+-- the event with this number, or the number, where no event has it
+abbrev pub HasNumber : ℕ → Result Event NoEvent → Type 0
+HasNumber n r = MatchResult r (λ event. event_number event ≡ n) (λ e. (e.0 ≡ n) × (is_event n ≡ false))
+
+-- the numbers of an event, if there is one
+abbrev pub numbers : Option Event → List ℕ
+numbers None = []
+numbers (Some event) = event_number event ∷ []
 
 -- a stage without an event, an event after which the receiver searches, and a break, which is held
 abbrev pub quiet : Stage → Next
-quiet stage = record { stage = stage; event = Nothing }
+quiet stage = record { stage = stage; event = None }
 
-abbrev pub report : ℕ → Next
-report n = record { stage = Searching; event = Number n }
+abbrev pub report : Event → Next
+report event = record { stage = Searching; event = Some event }
 
 abbrev pub hold_break : Next
-hold_break = record { stage = Held; event = Number break_begun }
+hold_break = record { stage = Held; event = Some Break }
 
 -- ---- rule 3: while the level is good the run grows by 1, to 32 at most; else it becomes 0
 
@@ -75,19 +88,19 @@ gathered slot byte bit = quiet (Waiting 32 (slot + 1) (byte + 2 ^ (slot - 1) * b
 
 -- stop, with space: if the byte is 0 it is a break, and else 256 and search
 abbrev pub stop_missed : ℕ → Next
-stop_missed byte = cond (eqb byte 0) hold_break (report no_stop)
+stop_missed byte = cond (eqb byte 0) hold_break (report NoStop)
 
 -- data, 1 to 8, and stop, 9, by the bit: a doubtful one gives 259 and search; a data bit is gathered; at the stop mark gives the byte, and
 -- search, and space see above
 abbrev pub bit_taken : ℕ → ℕ → Bit → Next
-bit_taken slot byte Doubtful = report bit_doubtful
-bit_taken slot byte Mark = cond (leb slot 8) (gathered slot byte 1) (report byte)
+bit_taken slot byte Doubtful = report DoubtfulBit
+bit_taken slot byte Mark = cond (leb slot 8) (gathered slot byte 1) (report (Character byte))
 bit_taken slot byte Space = cond (leb slot 8) (gathered slot byte 0) (stop_missed byte)
 
 -- by its number: 0 the start; data and stop: level not good gives 257 and search, and else the bit is taken
 unfoldable pub taken : ℕ → ℕ → Decision → Next
 taken slot byte d =
-    cond (eqb slot 0) (start_taken d) (cond (not d.good) (report carrier_lost) (bit_taken slot byte d.bit))
+    cond (eqb slot 0) (start_taken d) (cond (not d.good) (report CarrierLost) (bit_taken slot byte d.bit))
 
 -- ---- rule 6: a break is held until the run is 32 and mark is at least space; then it searches, from the next sample on
 
@@ -117,7 +130,7 @@ moved_by c d =
 
 -- what the code gives for a run and a stage out of their ranges, of which the specification says nothing
 abbrev pub unmoved : Control → Moved
-unmoved c = record { control = c; event = Nothing }
+unmoved c = record { control = c; event = None }
 
 -- ---- decisions
 

@@ -8,11 +8,14 @@ ghost use Rattle.control.specs.Ranges.{is_stage, is_control};
 ghost use Rattle.control.specs.Rules.{run_after, next_of, moved_by, unmoved};
 ghost use Rattle.control.specs.AsCoded.{is_found, asked_by, wait_over};
 
+mod event;
 mod slot;
+
+pub use event::{Event, NoEvent};
 
 // What the receiver does between samples: it searches for a start bit, or waits for a bit slot (the specification's moment: 0
 // start, 1 to 8 data, 9 stop) with the byte gathered so far, or a break is held and it waits for mark.
-#[derive(Clone, Copy)]
+#[derive(Clone, Copy, Debug, PartialEq, Eq)]
 pub enum Stage {
     Searching,
     Waiting { wait: u8, slot: u8, byte: u8 },
@@ -20,14 +23,14 @@ pub enum Stage {
 }
 
 // The part of a receiver's state that decisions move: the run of samples with a good level, and the stage.
-#[derive(Clone, Copy)]
+#[derive(Clone, Copy, Debug, PartialEq, Eq)]
 pub struct Control {
     pub run: u8,
     pub stage: Stage,
 }
 
 // The bit of a window, as a slot takes it: mark, space, or doubtful where the two energies are too close to tell.
-#[derive(Clone, Copy)]
+#[derive(Clone, Copy, Debug, PartialEq, Eq)]
 pub enum Bit {
     Mark,
     Space,
@@ -36,7 +39,7 @@ pub enum Bit {
 
 // What the energies of a window decide: the level is good; space is above mark, for a search, a start slot and a held break; the bit, for the
 // other slots. Beside it stands how far the energies are apart, larger minus smaller, which no rule here looks at.
-#[derive(Clone, Copy)]
+#[derive(Clone, Copy, Debug, PartialEq, Eq)]
 pub struct Decision {
     pub good: bool,
     pub space: bool,
@@ -44,66 +47,58 @@ pub struct Decision {
     pub difference: i64,
 }
 
-// A character (0 to 255), 256 for no stop bit, 257 for a lost carrier, 258 for a break or 259 for a doubtful bit; or nothing.
-#[derive(Clone, Copy)]
-pub enum Event {
-    Nothing,
-    Number(u16),
-}
-
 // What a stage asks for: it stays as it is until a decision with run 32 and a tone (space above mark, or not), which leads to the stage
 // `then`; or it waits for a slot.
-#[derive(Clone, Copy)]
+#[derive(Clone, Copy, Debug, PartialEq, Eq)]
 pub enum Asked {
     Tone { space: bool, then: Stage },
     Slot { wait: u8, slot: u8, byte: u8 },
 }
 
-// The stage after a sample, and its event.
-#[derive(Clone, Copy)]
+// The stage after a sample, and its event, if it has one.
+#[derive(Clone, Copy, Debug, PartialEq, Eq)]
 pub struct Next {
     pub stage: Stage,
-    pub event: Event,
+    pub event: Option<Event>,
 }
 
-// Run and stage after a sample, and its event.
-#[derive(Clone, Copy)]
+// Run and stage after a sample, and its event, if it has one.
+#[derive(Clone, Copy, Debug, PartialEq, Eq)]
 pub struct Moved {
     pub control: Control,
-    pub event: Event,
+    pub event: Option<Event>,
 }
 
 // Rules 3 to 6 of the specification for one sample, by the decision at its window. Out of their ranges run and stage come back as they are, and
 // there is no event.
+#[tactic(auto, using(crate::proofs::Ranges::control_stage), unfolding(crate::specs::Rules::moved_by))]
 pub fn moved_by(control: Control, d: Decision) -> Moved
     ensures { result ≡ cond (is_control control) (moved_by control d) (unmoved control) }
 {
     if !is_control(control) {
         return Moved {
             control,
-            event: Event::Nothing,
+            event: None,
         };
     }
-    let stage = control.stage;
     let run = run_after(control.run, d.good);
-    let n = next_of(stage, run, d);
-    let then = n.stage;
-    let event = n.event;
+    let n = next_of(control.stage, run, d);
     Moved {
-        control: Control { run, stage: then },
-        event,
+        control: Control {
+            run,
+            stage: n.stage,
+        },
+        event: n.event,
     }
 }
 
 fn run_after(run: u8, good: bool) -> u8
     ensures { result ≡ run_after run good }
 {
-    if !good {
-        0
-    } else if run < 32 {
-        run + 1
+    if good {
+        run.saturating_add(1).min(32)
     } else {
-        32
+        0
     }
 }
 
@@ -116,16 +111,16 @@ fn next_of(stage: Stage, run: u8, d: Decision) -> Next
     match asks_for(stage) {
         Asked::Tone { space, then } => {
             if is_found(space, run as usize, d) {
-                slot::quiet(then)
+                Next::quiet(then)
             } else {
-                slot::quiet(stage)
+                Next::quiet(stage)
             }
         }
         Asked::Slot { wait, slot, byte } => {
             if wait == 1 {
                 take(slot, byte, d)
             } else {
-                slot::quiet(Stage::Waiting {
+                Next::quiet(Stage::Waiting {
                     wait: wait - 1,
                     slot,
                     byte,
@@ -170,7 +165,7 @@ pub fn take(slot: u8, byte: u8, d: Decision) -> Next
     if slot::is_slot(slot, byte) {
         slot::take_slot(slot, byte, d)
     } else {
-        slot::quiet(Stage::Searching)
+        Next::quiet(Stage::Searching)
     }
 }
 
@@ -179,17 +174,16 @@ pub fn take(slot: u8, byte: u8, d: Decision) -> Next
 pub fn is_control(control: Control) -> bool
     ensures { result ≡ is_control control }
 {
-    let stage = control.stage;
-    control.run <= 32 && is_stage(stage)
+    control.run <= 32 && is_stage(control.stage)
 }
 
+#[tactic(auto, unfolding(crate::specs::Ranges::is_stage))]
 fn is_stage(stage: Stage) -> bool
     ensures { result ≡ is_stage stage }
 {
     match stage {
-        Stage::Searching => true,
         Stage::Waiting { wait, slot, byte } => slot::is_wait(wait, slot)
             && slot::is_slot(slot, byte),
-        Stage::Held => true,
+        Stage::Searching | Stage::Held => true,
     }
 }

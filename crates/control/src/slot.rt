@@ -1,48 +1,50 @@
-// A bit slot: its ranges, and what is done when it is taken.
+// A bit slot: its ranges, and what is done when it is taken. Slot and byte stand apart, as in `Stage`: the theorems name the three fields of
+// a wait.
 ghost use Rattle.std.specs.Prelude.{◌≡◌, true, ◌-◌, ◌^◌, ◌≤◌, ◌<◌};
 ghost use Rattle.control.specs.declared.Stage.TheVariants.{Waiting};
 ghost use Rattle.control.specs.Ranges.{is_wait, is_slot};
 ghost use Rattle.control.specs.Rules.{quiet, report, hold_break, bit_taken, taken};
-ghost use Rattle.control.specs.AsCoded.{is_doubt, is_mark, with_bit};
+ghost use Rattle.control.specs.AsCoded.{with_bit};
 
 use super::{Bit, Decision, Event, Next, Stage};
 
 // The slot that was waited for is taken.
+#[tactic(auto, unfolding(crate::specs::Rules::taken))]
 pub(crate) fn take_slot(slot: u8, byte: u8, d: Decision) -> Next
     requires { is_slot slot byte ≡ true }
     ensures { result ≡ taken slot byte d }
 {
-    let bit = d.bit;
     if slot == 0 {
         if d.good && d.space {
-            waiting(1, 0)
+            Next::waiting(1, 0)
         } else {
-            quiet(Stage::Searching)
+            Next::quiet(Stage::Searching)
         }
     } else if !d.good {
-        reporting(257)
+        Next::report(Event::CarrierLost)
     } else {
-        take_bit(slot, byte, bit)
+        take_bit(slot, byte, d.bit)
     }
 }
 
 // The bit of a data or stop slot: it is gathered, or brings an event. Doubt is asked for by itself: sound recordings have none, so that the
 // processor foresees the answer.
+#[tactic(auto, using(crate::proofs::Ranges::slot_below))]
 fn take_bit(slot: u8, byte: u8, bit: Bit) -> Next
     requires le_slot { 1 ≤ slot }
     requires byte_value { is_slot slot byte ≡ true }
     ensures { result ≡ bit_taken slot byte bit }
 {
-    if is_doubtful(bit) {
-        reporting(259)
+    if bit == Bit::Doubtful {
+        Next::report(Event::DoubtfulBit)
     } else if slot <= 8 {
-        waiting(slot + 1, gather(slot, byte, bit))
-    } else if is_mark(bit) {
-        reporting(byte as u16)
+        Next::waiting(slot + 1, gather(slot, byte, bit))
+    } else if bit == Bit::Mark {
+        Next::report(Event::Character(byte))
     } else if byte == 0 {
-        holding()
+        Next::hold_break()
     } else {
-        reporting(256)
+        Next::report(Event::NoStop)
     }
 }
 
@@ -51,30 +53,10 @@ fn gather(slot: u8, byte: u8, bit: Bit) -> u8
     requires { (1 ≤ slot) × (slot ≤ 8) × (byte < 2 ^ (slot - 1)) }
     ensures { result ≡ with_bit slot byte bit }
 {
-    if is_mark(bit) {
+    if bit == Bit::Mark {
         byte + weight(slot)
     } else {
         byte
-    }
-}
-
-fn is_doubtful(bit: Bit) -> bool
-    ensures { result ≡ is_doubt bit }
-{
-    match bit {
-        Bit::Mark => false,
-        Bit::Space => false,
-        Bit::Doubtful => true,
-    }
-}
-
-fn is_mark(bit: Bit) -> bool
-    ensures { result ≡ is_mark bit }
-{
-    match bit {
-        Bit::Mark => true,
-        Bit::Space => false,
-        Bit::Doubtful => false,
     }
 }
 
@@ -86,42 +68,43 @@ fn weight(slot: u8) -> u8
     1u8 << (slot - 1)
 }
 
-// The next slot is a bit, 32 samples, away.
-fn waiting(slot: u8, byte: u8) -> Next
-    ensures { result ≡ quiet (Waiting 32 slot byte) }
-{
-    quiet(Stage::Waiting {
-        wait: 32,
-        slot,
-        byte,
-    })
-}
-
-pub(crate) fn quiet(stage: Stage) -> Next
-    ensures { result ≡ quiet stage }
-{
-    Next {
-        stage,
-        event: Event::Nothing,
+impl Next {
+    // A stage without an event.
+    pub(crate) fn quiet(stage: Stage) -> Self
+        ensures { result ≡ quiet stage }
+    {
+        Next { stage, event: None }
     }
-}
 
-fn reporting(number: u16) -> Next
-    ensures { result ≡ report number }
-{
-    Next {
-        stage: Stage::Searching,
-        event: Event::Number(number),
+    // The next slot is a bit, 32 samples, away.
+    fn waiting(slot: u8, byte: u8) -> Self
+        ensures { result ≡ quiet (Waiting 32 slot byte) }
+    {
+        Next::quiet(Stage::Waiting {
+            wait: 32,
+            slot,
+            byte,
+        })
     }
-}
 
-// A break, which is held from here on.
-fn holding() -> Next
-    ensures { result ≡ hold_break }
-{
-    Next {
-        stage: Stage::Held,
-        event: Event::Number(258),
+    // An event, after which the receiver searches.
+    fn report(event: Event) -> Self
+        ensures { result ≡ report event }
+    {
+        Next {
+            stage: Stage::Searching,
+            event: Some(event),
+        }
+    }
+
+    // A break, which is held from here on.
+    fn hold_break() -> Self
+        ensures { result ≡ hold_break }
+    {
+        Next {
+            stage: Stage::Held,
+            event: Some(Event::Break),
+        }
     }
 }
 
@@ -132,16 +115,14 @@ pub(crate) fn is_wait(wait: u8, slot: u8) -> bool
     1 <= wait && wait <= most
 }
 
+#[tactic(auto, unfolding(crate::specs::Ranges::is_slot))]
 pub(crate) fn is_slot(slot: u8, byte: u8) -> bool
     ensures { result ≡ is_slot slot byte }
 {
-    if 9 < slot {
-        false
-    } else if slot < 2 {
-        byte == 0
-    } else if slot < 9 {
-        byte < weight(slot)
-    } else {
-        true
+    match slot {
+        0 | 1 => byte == 0,
+        2..=8 => byte < weight(slot),
+        9 => true,
+        _ => false,
     }
 }

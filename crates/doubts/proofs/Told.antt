@@ -10,6 +10,7 @@ use borrow.Author.Tests.{le-leb, leb-true, ltb-true}
 use lib.Dec.{leb, ltb}
 use lib.IntN.{ℤ, pos}
 use lib.ListN.{get_or, take}
+use Rattle.std.specs.Prelude.{None}
 use Rattle.integers.specs.Sums.{sum_to}
 use Rattle.integers.proofs.Tests.{passes_below, below_at}
 use Rattle.sine.specs.Sine.{S, half, nearest}
@@ -25,11 +26,10 @@ use Rattle.control.specs.declared.Control.{Control}
 use Rattle.control.specs.Ranges.{is_slot, is_stage, is_control}
 use Rattle.control.specs.Rules.{bit_doubtful, report, run_after, next_of}
 use Rattle.control.proofs.Rules.{control-after, events-reported, wait_taken, doubt_taken}
-use Rattle.control.proofs.Ranges.{control-stage}
+use Rattle.control.proofs.Ranges.{control_stage}
 use Rattle.control.proofs.Events.{doubt_only}
 use Rattle.weighing.specs.Weighing.{level}
 use Rattle.weighing.proofs.Laws.{level-ℕ, weighed_means}
-use Rattle.quality.specs.declared.Difference.TheVariants.{None}
 use Rattle.quality.specs.Quality.{is_kept}
 use Rattle.receiver.specs.declared.Receiver.{Receiver}
 use Rattle.receiver.specs.Energy.{energyℕ}
@@ -78,7 +78,7 @@ module _ (s : Receiver) (x : ℤ) where
     where
       only : events_at s x ≡ bit_doubtful ∷ [] → Doubted s x
       only e =
-          let k = doubt_only s.stage run d (control-stage (control_of s) (in_range_lem s h).control)
+          let k = doubt_only s.stage run d (control_stage (control_of s) (in_range_lem s h).control)
           (sym (events-reported (control_of s) d run (next_of s.stage run d) refl refl) ∙ e) in
           record {
             slot = k.slot;

@@ -5,6 +5,7 @@ use mathlib.Core.List.{List, [], ◌∷◌, ◌++◌, map, append_assoc}
 use Prim.Native.Nat.{ℕ, ◌<◌}
 use native.Mathlib.Omega.{arith}
 use lib.IntN.{ℤ}
+use Rattle.std.specs.Prelude.{None}
 use Rattle.integers.specs.All.{none, more}
 use Rattle.integers.specs.Near.{Near}
 use Rattle.integers.proofs.Near.{near_self, near_append, near_altered}
@@ -18,7 +19,6 @@ use Rattle.transmitter.specs.Lists as sending
 use Rattle.transmitter.proofs.Lists.{samples-written}
 use Rattle.control.specs.declared.Decision.{Decision}
 use Rattle.control.specs.Rules.{carrier_lost, bit_doubtful, reports}
-use Rattle.quality.specs.declared.Difference.TheVariants.{None}
 use Rattle.quality.specs.Quality.{measures}
 use Rattle.quality.proofs.Clear.{strict, AreRead, none_yet, AllAtLeast, all_clear}
 use Rattle.receiver.specs.Energy.{decision_of}

@@ -8,6 +8,7 @@ use Prim.Native.Nat.{ℕ, ◌-◌}
 use lib.Dec.{eqb}
 use lib.IntN.{ℤ, pos}
 use lib.Signed.{lt_z, le_z}
+use Rattle.std.specs.Prelude.{Option, Some, None}
 use Rattle.integers.specs.All.{All, none, more}
 use Rattle.integers.proofs.All.{all_append, all_front, all_behind}
 use Rattle.integers.proofs.Tests.{cond_case, cond-split}
@@ -15,7 +16,7 @@ use Rattle.calls.specs.Runs.{gives}
 use Rattle.control.specs.declared.Bit.{Bit}
 use Rattle.control.specs.declared.Bit.TheVariants.{Doubtful}
 use Rattle.control.specs.declared.Decision.{Decision}
-use Rattle.control.specs.declared.Event.TheVariants.{Nothing}
+use Rattle.control.specs.declared.event.Event.TheVariants.{CarrierLost}
 use Rattle.control.specs.declared.Next.{Next}
 use Rattle.control.specs.declared.Stage.{Stage}
 use Rattle.control.specs.declared.Stage.TheVariants.{Searching, Waiting, Held}
@@ -23,8 +24,6 @@ use Rattle.control.specs.declared.Control.{Control}
 use Rattle.control.specs.declared.Moved.{Moved}
 use Rattle.control.specs.Rules.{carrier_lost, bit_doubtful, numbers, report, bit_taken, run_after, taken, next_of, moved_by, control_after, reported, reports}
 use Rattle.control.specs.AsCoded.{is_doubt}
-use Rattle.quality.specs.declared.Difference.{Difference}
-use Rattle.quality.specs.declared.Difference.TheVariants.{None, Of}
 use Rattle.quality.specs.declared.Tracked.{Tracked}
 use Rattle.quality.specs.Quality.{least_with, takes_bit, kept_in, tracked_after, measured, measures}
 
@@ -61,14 +60,14 @@ module _ (clear : ℕ) (d : Decision) where
   record Step (stage : Stage) (run : ℕ) : Type 0 where
     same : next_of stage run (strict clear d) ≡ next_of stage run d
     enough : takes_bit stage ≡ true → le_z (pos clear) d.difference ≡ true
-    untold : takes_bit stage ≡ false → (next_of stage run d).event ≡ Nothing
+    untold : takes_bit stage ≡ false → (next_of stage run d).event ≡ None
 
   -- it is read at a slot only with so large a difference
   slot_read : (slot byte : ℕ) → eqb slot 0 ≡ false → AreRead (numbers (taken slot byte (strict clear d)).event) → le_z (pos clear) d.difference ≡ true
   unfolding taken
   slot_read slot byte z h = go (le_z (pos clear) d.difference) d.good (rw z at h)
     where
-      go : (large good : Bool) → AreRead (numbers (cond (not good) (report carrier_lost) (bit_taken slot byte (cond large d.bit Doubtful))).event) → large ≡ true
+      go : (large good : Bool) → AreRead (numbers (cond (not good) (report CarrierLost) (bit_taken slot byte (cond large d.bit Doubtful))).event) → large ≡ true
       go true good h = refl
       go false true (more h r) = absurd (h.1 refl)
       go false false (more h r) = absurd (h.0 refl)
@@ -85,7 +84,7 @@ module _ (clear : ℕ) (d : Decision) where
           record {
             same = rw (e, f);
             enough = λ t. absurd (false≢true (rw (e, f) at t));
-            untold = λ t. rw (e, f) (cond_case (λ (n : Next). n.event ≡ Nothing) (d.good && d.space) _ _ refl refl);
+            untold = λ t. rw (e, f) (cond_case (λ (n : Next). n.event ≡ None) (d.good && d.space) _ _ refl refl);
           }
       go true false e f =
           let large = slot_read slot byte f (rw e at h) in
@@ -98,16 +97,16 @@ module _ (clear : ℕ) (d : Decision) where
 -- ---- beside the smallest difference
 
 -- the one so far is at least `clear`, if there is one
-pub data AtLeast (clear : ℕ) : Difference → Type 0 where
+pub data AtLeast (clear : ℕ) : Option ℤ → Type 0 where
   none_yet : AtLeast clear None
-  so_far : {least : ℤ} → le_z (pos clear) least ≡ true → AtLeast clear (Of least)
+  so_far : {least : ℤ} → le_z (pos clear) least ≡ true → AtLeast clear (Some least)
 
 -- and so is that of each event
 abbrev pub AllAtLeast : ℕ → List (ℕ × ℤ) → Type 0
 AllAtLeast clear = All (λ (e : ℕ × ℤ). le_z (pos clear) e.1 ≡ true)
 
 module _ (clear : ℕ) where
-  least_enough : {q : Difference} → AtLeast clear q → (d : ℤ) → le_z (pos clear) d ≡ true → le_z (pos clear) (least_with q d) ≡ true
+  least_enough : {q : Option ℤ} → AtLeast clear q → (d : ℤ) → le_z (pos clear) d ≡ true → le_z (pos clear) (least_with q d) ≡ true
   least_enough none_yet d h = h
   least_enough (so_far {least = least} l) d h = cond_case (λ (v : ℤ). le_z (pos clear) v ≡ true) (lt_z d least) d least h l
 

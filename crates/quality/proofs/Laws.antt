@@ -10,6 +10,7 @@ use borrow.Author.Tests.{le-leb, eq-eqb, ne_eqb}
 use lib.Dec.{eqb}
 use lib.IntN.{ℤ, pos}
 use lib.Signed.{lt_z, le_z}
+use Rattle.std.specs.Prelude.{Option, Some, None}
 use Rattle.integers.proofs.Tests.{cond_case, cond-split}
 use Rattle.calls.specs.Runs.{after, gives}
 use Rattle.control.specs.declared.Decision.{Decision}
@@ -18,8 +19,6 @@ use Rattle.control.specs.declared.Stage.{Stage}
 use Rattle.control.specs.declared.Stage.TheVariants.{Searching, Waiting, Held}
 use Rattle.control.specs.Rules.{run_after, ends_break, taken, next_of, moved_by, control_after, reported, follow, reports}
 use Rattle.control.proofs.Rules.{taken_case}
-use Rattle.quality.specs.declared.Difference.{Difference}
-use Rattle.quality.specs.declared.Difference.TheVariants.{None, Of}
 use Rattle.quality.specs.declared.Tracked.{Tracked}
 use Rattle.quality.specs.Quality.{least_with, is_gathering, is_kept, takes_bit, kept_in, tracked_after, measured, track, measures}
 
@@ -45,28 +44,28 @@ numbers_part s (d ∷ ds) =
 -- ---- differences that are not negative
 
 -- where there is one, it is not negative
-abbrev pub Natural : Difference → Type 0
+abbrev pub Natural : Option ℤ → Type 0
 Natural None = Unit
-Natural (Of least) = le_z (pos 0) least ≡ true
+Natural (Some least) = le_z (pos 0) least ≡ true
 
-pub least_natural : (q : Difference) (d : ℤ) → Natural q → le_z (pos 0) d ≡ true → le_z (pos 0) (least_with q d) ≡ true
+pub least_natural : (q : Option ℤ) (d : ℤ) → Natural q → le_z (pos 0) d ≡ true → le_z (pos 0) (least_with q d) ≡ true
 least_natural None d h k = k
-least_natural (Of least) d h k = cond_case (λ (z : ℤ). le_z (pos 0) z ≡ true) (lt_z d least) d least k h
+least_natural (Some least) d h k = cond_case (λ (z : ℤ). le_z (pos 0) z ≡ true) (lt_z d least) d least k h
 
-pub kept_natural : (stage : Stage) (q : Difference) → is_kept stage q ≡ true → Natural q
+pub kept_natural : (stage : Stage) (q : Option ℤ) → is_kept stage q ≡ true → Natural q
 unfolding is_kept
 kept_natural stage None h = tt
-kept_natural stage (Of least) h = and_elim_right (is_gathering stage) (le_z (pos 0) least) h
+kept_natural stage (Some least) h = and_elim_right (is_gathering stage) (le_z (pos 0) least) h
 
 -- ---- a decision keeps the range
 
 -- at two stages that wait for one of the slots 2 to 9, and at two that do not, it is the same
-kept_alike : (stage next : Stage) (q : Difference) → is_gathering stage ≡ is_gathering next → is_kept stage q ≡ true → is_kept next q ≡ true
+kept_alike : (stage next : Stage) (q : Option ℤ) → is_gathering stage ≡ is_gathering next → is_kept stage q ≡ true → is_kept next q ≡ true
 unfolding is_kept
 kept_alike stage next None e h = ap not (sym e) ∙ h
-kept_alike stage next (Of least) e h = ap (λ (b : Bool). b && le_z (pos 0) least) (sym e) ∙ h
+kept_alike stage next (Some least) e h = ap (λ (b : Bool). b && le_z (pos 0) least) (sym e) ∙ h
 
-module _ (d : Decision) (q : Difference) (natural : le_z (pos 0) d.difference ≡ true) where
+module _ (d : Decision) (q : Option ℤ) (natural : le_z (pos 0) d.difference ≡ true) where
   -- of the next stage, and whether a data or stop slot is taken
   abbrev Kept : Bool → Next → Type 0
   Kept takes n = is_kept n.stage (cond takes (kept_in n.stage (least_with q d.difference)) q) ≡ true

@@ -13,21 +13,22 @@ use lib.Dec.{eqb}
 use lib.IntN.{ℤ}
 use lib.ListN.{length, get_or, take, drop, length-drop}
 use lib.Seq.{take-suc, drop-cons}
+use Rattle.std.specs.Prelude.{Option, Some, None}
 use Rattle.integers.specs.All.{All, none, more}
 use Rattle.integers.proofs.All.{all_append}
 use Rattle.integers.proofs.Tests.{cond_case, cond-split, lt_or_le}
 use Rattle.calls.specs.Runs.{after, indexed, with_index}
 use Rattle.calls.proofs.Runs.{run_laws}
 use Rattle.control.specs.declared.Decision.{Decision}
+use Rattle.control.specs.declared.event.Event.{Event}
+use Rattle.control.specs.declared.event.Event.TheVariants.{Character, NoStop, CarrierLost, DoubtfulBit}
 use Rattle.control.specs.declared.Next.{Next}
 use Rattle.control.specs.declared.Stage.{Stage}
 use Rattle.control.specs.declared.Stage.TheVariants.{Searching, Waiting, Held}
 use Rattle.control.specs.Ranges.{is_stage, is_control}
-use Rattle.control.specs.Rules.{no_stop, carrier_lost, break_begun, bit_doubtful, numbers, quiet, report, hold_break, run_after, ends_break, taken, next_of, moved_by, control_after, reported}
+use Rattle.control.specs.Rules.{break_begun, event_number, numbers, quiet, report, hold_break, run_after, ends_break, taken, next_of, moved_by, control_after, reported}
 use Rattle.control.proofs.Rules.{taken_case}
-use Rattle.control.proofs.Ranges.{wait_low, slot-most, stage_wait, stage-slot, control-stage, control_kept}
-use Rattle.quality.specs.declared.Difference.{Difference}
-use Rattle.quality.specs.declared.Difference.TheVariants.{None, Of}
+use Rattle.control.proofs.Ranges.{wait_low, slot-most, stage_wait, stage-slot, control_stage, control_kept}
 use Rattle.quality.specs.declared.Tracked.{Tracked}
 use Rattle.quality.specs.Quality.{least_with, is_gathering, takes_bit, kept_in, tracked_after, measured, track, measures_from}
 use Rattle.quality.specs.Slots.{least_of, TakesSlot, Differences, AtStop, OwnSlots, EventsOwn}
@@ -35,9 +36,9 @@ use Rattle.quality.specs.Slots.{least_of, TakesSlot, Differences, AtStop, OwnSlo
 -- ---- the smallest
 
 -- of f 0 to f (n - 1), and none for 0
-abbrev least_before : (ℕ → ℤ) → ℕ → Difference
+abbrev least_before : (ℕ → ℤ) → ℕ → Option ℤ
 least_before f zero = None
-least_before f (suc n) = Of (least_of f n)
+least_before f (suc n) = Some (least_of f n)
 
 -- with f n
 least_more : (f : ℕ → ℤ) (n : ℕ) → least_with (least_before f n) (f n) ≡ least_of f n
@@ -60,20 +61,20 @@ module _ (s : Tracked) (difference : ℕ → ℤ) (ds : List Decision) (same : D
   -- ---- before decision n
 
   -- Waiting for a slot, the decision `first` takes slot 1, or will take it; the slots before this one are taken, and q is their smallest.
-  record Under (n wait slot : ℕ) (q : Difference) : Type 0 where
+  record Under (n wait slot : ℕ) (q : Option ℤ) : Type 0 where
     first : ℕ
     place : n + wait + 32 ≡ first + 32 * slot + 1
     takes : (j : ℕ) → j + 1 < slot → TakesSlot s ds (j + 1) (first + 32 * j)
     least : q ≡ least_before (slot_from first) (slot - 1)
 
   -- at each stage
-  abbrev Before : ℕ → Stage → Difference → Type 0
+  abbrev Before : ℕ → Stage → Option ℤ → Type 0
   Before n Searching q = q ≡ None
   Before n (Waiting wait slot byte) q = Under n wait slot q
   Before n Held q = q ≡ None
 
   -- slot 1 is not taken yet
-  first-ahead : (n wait slot : ℕ) {q : Difference} → 1 ≤ wait → slot ≤ 1 → q ≡ None → Under n wait slot q
+  first-ahead : (n wait slot : ℕ) {q : Option ℤ} → 1 ≤ wait → slot ≤ 1 → q ≡ None → Under n wait slot q
   first-ahead n wait slot w l e =
       let z : slot - 1 ≡ 0 = omega arith in
       record {
@@ -85,7 +86,7 @@ module _ (s : Tracked) (difference : ℕ → ℤ) (ds : List Decision) (same : D
 
   -- ---- one decision
 
-  module _ (n : ℕ) (d : Decision) (q : Difference) (inside : n < length ds) (this : difference n ≡ d.difference) where
+  module _ (n : ℕ) (d : Decision) (q : Option ℤ) (inside : n < length ds) (this : difference n ≡ d.difference) where
     -- the smallest with its difference
     abbrev now : ℤ
     now = least_with q d.difference
@@ -130,18 +131,18 @@ module _ (s : Tracked) (difference : ℕ → ℤ) (ds : List Decision) (same : D
             }
 
         -- the character goes on, or it ends with an event
-        goes_on : Under (n + 1) 32 (slot + 1) (Of now)
+        goes_on : Under (n + 1) 32 (slot + 1) (Some now)
         goes_on =
             let e : suc (slot - 1) ≡ slot + 1 - 1 = omega (arith, nz) in
             record {
               first = u.first;
               place = omega (arith, u.place);
               takes = λ j h. takes-this j (omega arith);
-              least = ap Of least_this ∙ ap (least_before (slot_from u.first)) e;
+              least = ap Some least_this ∙ ap (least_before (slot_from u.first)) e;
             }
 
-        goes_report : (m : ℕ) → AtStop m slot → Goes (not (eqb slot 0)) (report m)
-        goes_report m whole = rw (ne_eqb slot 0 nz) (record { keeps = refl; tells = more (own m whole) none })
+        goes_report : (event : Event) → AtStop (event_number event) slot → Goes (not (eqb slot 0)) (report event)
+        goes_report event whole = rw (ne_eqb slot 0 nz) (record { keeps = refl; tells = more (own (event_number event) whole) none })
 
         goes_break : AtStop break_begun slot → Goes (not (eqb slot 0)) hold_break
         goes_break whole = rw (ne_eqb slot 0 nz) (record { keeps = refl; tells = more (own break_begun whole) none })
@@ -152,12 +153,12 @@ module _ (s : Tracked) (difference : ℕ → ℤ) (ds : List Decision) (same : D
           (record {
             start = λ z. rw (eq-eqb slot 0 z) (record { keeps = first-ahead (n + 1) 32 1 (omega arith) (omega arith) (start_none z); tells = none });
             no_start = λ z. rw (eq-eqb slot 0 z) (record { keeps = start_none z; tells = none });
-            level_lost = λ nz. goes_report nz carrier_lost (λ f g. absurd (f refl));
+            level_lost = λ nz. goes_report nz CarrierLost (λ f g. absurd (f refl));
             bit = λ nz l bit b. rw (ne_eqb slot 0 nz) (record { keeps = goes_on nz; tells = none });
-            doubt = λ nz g e. goes_report nz bit_doubtful (λ f g. absurd (g refl));
+            doubt = λ nz g e. goes_report nz DoubtfulBit (λ f g. absurd (g refl));
             break = λ l g e z. goes_break (λ z. omega arith) (λ f g. omega (arith, most));
-            no_stop_told = λ l. goes_report (λ z. omega arith) no_stop (λ f g. omega (arith, most));
-            character = λ l. goes_report (λ z. omega arith) byte (λ f g. omega (arith, most));
+            no_stop_told = λ l. goes_report (λ z. omega arith) NoStop (λ f g. omega (arith, most));
+            character = λ l. goes_report (λ z. omega arith) (Character byte) (λ f g. omega (arith, most));
           })
 
     next_goes : (stage : Stage) (run : ℕ) → is_stage stage ≡ true → (here n).control.stage ≡ stage → Before n stage q
@@ -198,7 +199,7 @@ module _ (s : Tracked) (difference : ℕ → ℤ) (ds : List Decision) (same : D
       goes : let stage : Stage = t.control.stage in
           Goes n d t.smallest inside its_difference (takes_bit stage) (next_of stage (run_after t.control.run d.good) d)
       goes =
-          next_goes n d t.smallest inside its_difference t.control.stage (run_after t.control.run d.good) (control-stage t.control h)
+          next_goes n d t.smallest inside its_difference t.control.stage (run_after t.control.run d.good) (control_stage t.control h)
           (ap (λ (u : Tracked). u.control.stage) stands) b
 
       told : All Own (with_index n (measured t d))
@@ -233,7 +234,7 @@ module _ (s : Tracked) (difference : ℕ → ℤ) (ds : List Decision) (same : D
 pub events-own : (s : Tracked) (difference : ℕ → ℤ) (ds : List Decision) → EventsOwn s difference ds
 unfolding after
 events-own s difference ds f same =
-    along s difference ds same 0 s ds refl refl f.in_range (start s.control.stage (control-stage s.control f.in_range) f.ahead)
+    along s difference ds same 0 s ds refl refl f.in_range (start s.control.stage (control_stage s.control f.in_range) f.ahead)
   where
     start : (stage : Stage) → is_stage stage ≡ true → is_gathering stage ≡ false → Before s difference ds same 0 stage s.smallest
     start Searching h g = f.none

@@ -10,13 +10,14 @@ use borrow.Author.Tests.{ne_eqb}
 use lib.Dec.{eqb}
 use lib.IntN.{ℤ}
 use lib.ListN.{length}
+use Rattle.std.specs.Prelude.{Option}
 use Rattle.calls.specs.Runs.{after, indexed, with_index}
 use Rattle.calls.proofs.Runs.{run_laws}
 use Rattle.calls.proofs.Indexed.{indexed_append}
 use Rattle.control.specs.declared.Asked.{Asked}
 use Rattle.control.specs.declared.Asked.TheVariants.{Tone, Slot}
 use Rattle.control.specs.declared.Decision.{Decision}
-use Rattle.control.specs.declared.Event.{Event}
+use Rattle.control.specs.declared.event.Event.{Event}
 use Rattle.control.specs.declared.Next.{Next}
 use Rattle.control.specs.declared.Stage.{Stage}
 use Rattle.control.specs.declared.Stage.TheVariants.{Searching, Waiting, Held}
@@ -24,22 +25,21 @@ use Rattle.control.specs.declared.Control.{Control}
 use Rattle.control.specs.Rules.{numbers, quiet, run_after, next_of}
 use Rattle.control.specs.AsCoded.{asked_by, run_over, NoneFound}
 use Rattle.control.proofs.Rules.{wait_more, IsSearch, control-after, events-reported}
-use Rattle.quality.specs.declared.Difference.{Difference}
 use Rattle.quality.specs.declared.Tracked.{Tracked}
 use Rattle.quality.specs.Quality.{least_with, takes_bit, kept_in, tracked_after, measured, track, measures_from}
 
 -- ---- one decision
 
 -- the smallest difference behind a decision with the difference d, which leads from one stage to another
-abbrev pub behind : Stage → Difference → ℤ → Stage → Difference
+abbrev pub behind : Stage → Option ℤ → ℤ → Stage → Option ℤ
 behind stage q d next = cond (takes_bit stage) (kept_in next (least_with q d)) q
 
 -- the numbers of an event, with the difference that it carries
-abbrev pub numbers_with : ℤ → Event → List (ℕ × ℤ)
+abbrev pub numbers_with : ℤ → Option Event → List (ℕ × ℤ)
 numbers_with d e = map (λ n. (n, d)) (numbers e)
 
 -- a state by its parts
-abbrev pub tracked : ℕ → Stage → Difference → Tracked
+abbrev pub tracked : ℕ → Stage → Option ℤ → Tracked
 tracked run stage q = record { control = record { run = run; stage = stage }; smallest = q }
 
 module _ (s : Tracked) (d : Decision) (run : ℕ) (n : Next) (er : run ≡ run_after s.control.run d.good)
@@ -71,7 +71,7 @@ pub no_slot : (stage : Stage) (a : Asked) → a ≡ asked_by stage → NoSlot st
 no_slot stage a e = rw e (no_slot-by stage)
 
 -- what the code says of a slot that is taken
-pub slot-behind : (slot byte : ℕ) (q : Difference) (d : ℤ) (next : Stage)
+pub slot-behind : (slot byte : ℕ) (q : Option ℤ) (d : ℤ) (next : Stage)
     → cond (eqb slot 0) q (kept_in next (least_with q d)) ≡ behind (Waiting 1 slot byte) q d next
 slot-behind slot byte q d next = go (eqb slot 0)
   where
@@ -82,12 +82,12 @@ slot-behind slot byte q d next = go (eqb slot 0)
 -- ---- where a list of decisions leads
 
 -- from s to a run, a stage and a smallest difference, with these events, where the first decision has the index k
-pub record Leads (k : ℕ) (s : Tracked) (ds : List Decision) (run : ℕ) (stage : Stage) (q : Difference) (events : List ((ℕ × ℤ) × ℕ)) : Type 0 where
+pub record Leads (k : ℕ) (s : Tracked) (ds : List Decision) (run : ℕ) (stage : Stage) (q : Option ℤ) (events : List ((ℕ × ℤ) × ℕ)) : Type 0 where
   pub state : track s ds ≡ tracked run stage q
   pub told : measures_from k s ds ≡ events
 
 -- one decision behind others that tell nothing
-module _ {k : ℕ} {s : Tracked} {ds : List Decision} {run : ℕ} {stage : Stage} {q : Difference} where
+module _ {k : ℕ} {s : Tracked} {ds : List Decision} {run : ℕ} {stage : Stage} {q : Option ℤ} where
   pub lead_more : (d : Decision) (n : Next) → n ≡ next_of stage (run_after run d.good) d → Leads k s ds run stage q []
       → Leads k s (ds ++ d ∷ []) (run_after run d.good) n.stage (behind stage q d.difference n.stage)
       (with_index (k + length ds) (numbers_with (least_with q d.difference) n.event))
@@ -108,9 +108,9 @@ module _ {k : ℕ} {s : Tracked} {ds : List Decision} {run : ℕ} {stage : Stage
       }
 
 -- one decision before others, which takes no data or stop slot and tells nothing
-module _ (k run : ℕ) (stage : Stage) (none : takes_bit stage ≡ false) (q : Difference) (stage' : Stage) (d : Decision) (ds : List Decision)
+module _ (k run : ℕ) (stage : Stage) (none : takes_bit stage ≡ false) (q : Option ℤ) (stage' : Stage) (d : Decision) (ds : List Decision)
     (e : next_of stage (run_after run d.good) d ≡ quiet stage') where
-  lead_next : {run'' : ℕ} {stage'' : Stage} {q'' : Difference} {events : List ((ℕ × ℤ) × ℕ)}
+  lead_next : {run'' : ℕ} {stage'' : Stage} {q'' : Option ℤ} {events : List ((ℕ × ℤ) × ℕ)}
       → Leads (k + 1) (tracked (run_after run d.good) stage' q) ds run'' stage'' q'' events → Leads k (tracked run stage q) (d ∷ ds) run'' stage'' q'' events
   unfolding after indexed
   lead_next l =
@@ -127,7 +127,7 @@ module _ (k run : ℕ) (stage : Stage) (none : takes_bit stage ≡ false) (q : D
       }
 
 -- a wait, before its last decision
-pub waits : (k run wait slot byte : ℕ) (q : Difference) (ds : List Decision) → length ds < wait
+pub waits : (k run wait slot byte : ℕ) (q : Option ℤ) (ds : List Decision) → length ds < wait
     → Leads k (tracked run (Waiting wait slot byte) q) ds (run_over run ds) (Waiting (wait - length ds) slot byte) q []
 unfolding after indexed
 waits k run wait slot byte q [] h =
@@ -141,7 +141,7 @@ waits k run wait slot byte q (d ∷ ds) h =
     (waits (k + 1) (run_after run d.good) (wait - 1) slot byte q ds (omega arith)))
 
 -- a search that none of them ends
-module _ {space : Bool} {stage next : Stage} (s : IsSearch space stage next) (none : takes_bit stage ≡ false) (q : Difference) where
+module _ {space : Bool} {stage next : Stage} (s : IsSearch space stage next) (none : takes_bit stage ≡ false) (q : Option ℤ) where
   pub searches : (k run : ℕ) (ds : List Decision) → NoneFound space run ds → Leads k (tracked run stage q) ds (run_over run ds) stage q []
   unfolding after indexed NoneFound
   searches k run [] h = record { state = refl; told = refl }

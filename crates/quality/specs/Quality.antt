@@ -1,7 +1,7 @@
 -- The smallest difference of the two energies, and the events with theirs: the specification, "Quality beside each character". It is a
 -- machine beside run and stage: it sees what a decision does to them, and the decision's difference.
 -- Assumes nothing.
-use Rattle.std.specs.Prelude.{Bool, false, cond, not, ◌&&◌, List, map, ℕ, ◌-◌, leb, eqb, ℤ, pos}
+use Rattle.std.specs.Prelude.{Bool, false, cond, not, ◌&&◌, List, map, ℕ, ◌-◌, leb, eqb, ℤ, pos, Option, Some, None}
 use Rattle.std.specs.Int.Signed.{lt_z, le_z}
 use Rattle.calls.specs.Runs.{after, gives, indexed}
 use Rattle.control.specs.declared.Decision.{Decision}
@@ -9,16 +9,14 @@ use Rattle.control.specs.declared.Stage.{Stage}
 use Rattle.control.specs.declared.Stage.TheVariants.{Searching, Waiting, Held}
 use Rattle.control.specs.declared.Control.{Control}
 use Rattle.control.specs.Rules.{control_after, reported}
-use Rattle.quality.specs.declared.Difference.{Difference}
-use Rattle.quality.specs.declared.Difference.TheVariants.{None, Of}
 use Rattle.quality.specs.declared.Tracked.{Tracked}
 
 -- ---- the smallest difference
 
 -- of those so far and one more
-abbrev pub least_with : Difference → ℤ → ℤ
+abbrev pub least_with : Option ℤ → ℤ → ℤ
 least_with None d = d
-least_with (Of least) d = cond (lt_z d least) d least
+least_with (Some least) d = cond (lt_z d least) d least
 
 -- present while waiting for slots 2 to 9
 abbrev pub is_gathering : Stage → Bool
@@ -27,9 +25,9 @@ is_gathering (Waiting wait slot byte) = leb 2 slot && leb slot 9
 is_gathering Held = false
 
 -- its range beside a stage: present exactly then, and never negative
-unfoldable pub is_kept : Stage → Difference → Bool
+unfoldable pub is_kept : Stage → Option ℤ → Bool
 is_kept stage None = not (is_gathering stage)
-is_kept stage (Of least) = is_gathering stage && le_z (pos 0) least
+is_kept stage (Some least) = is_gathering stage && le_z (pos 0) least
 
 -- ---- one sample
 
@@ -40,9 +38,9 @@ takes_bit (Waiting wait slot byte) = eqb (wait - 1) 0 && not (eqb slot 0)
 takes_bit Held = false
 
 -- what is kept behind such a slot: the character goes on where the stage waits, and elsewhere there is none
-abbrev pub kept_in : Stage → ℤ → Difference
+abbrev pub kept_in : Stage → ℤ → Option ℤ
 kept_in Searching least = None
-kept_in (Waiting wait slot byte) least = Of least
+kept_in (Waiting wait slot byte) least = Some least
 kept_in Held least = None
 
 -- run and stage move as they do without it; the difference counts where a data or stop slot is taken, and else stays as it was

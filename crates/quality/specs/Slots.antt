@@ -1,14 +1,13 @@
 -- That the difference of each event is the smallest over the slots of its own character, over lists of decisions: the specification,
 -- "Quality beside each character". The decisions of a list are counted from 0.
 -- Assumes nothing.
-use Rattle.std.specs.Prelude.{◌≡◌, true, false, cond, List, ℕ, zero, suc, ◌+◌, ◌-◌, ◌*◌, ◌<◌, ◌≤◌, ℤ, length, get_or, take}
+use Rattle.std.specs.Prelude.{◌≡◌, true, false, cond, List, ℕ, zero, suc, ◌+◌, ◌-◌, ◌*◌, ◌<◌, ◌≤◌, ℤ, length, get_or, take, None}
 use Rattle.std.specs.Int.Signed.{lt_z}
 use Rattle.integers.specs.All.{All}
 use Rattle.control.specs.declared.Decision.{Decision}
 use Rattle.control.specs.declared.Stage.TheVariants.{Waiting}
 use Rattle.control.specs.Ranges.{is_control}
 use Rattle.control.specs.Rules.{carrier_lost, bit_doubtful}
-use Rattle.quality.specs.declared.Difference.TheVariants.{None}
 use Rattle.quality.specs.declared.Tracked.{Tracked}
 use Rattle.quality.specs.Quality.{is_gathering, track, measures_from}
 

@@ -8,29 +8,22 @@ ghost use Rattle.quality.specs.AsCoded.{measured_by};
 
 use control::{Control, Stage};
 
-// The smallest difference so far, or none where no data slot of a character has been taken.
-#[derive(Clone, Copy)]
-pub enum Difference {
-    None,
-    Of(i64),
-}
-
-// Run and stage, and the smallest difference beside them.
-#[derive(Clone, Copy)]
+// Run and stage, and beside them the smallest difference so far, where a data slot of a character has been taken.
+#[derive(Clone, Copy, Debug, PartialEq, Eq)]
 pub struct Tracked {
     pub control: Control,
-    pub smallest: Difference,
+    pub smallest: Option<i64>,
 }
 
 // What a slot leaves: the smallest difference behind it, and the difference that an event of the slot carries.
-#[derive(Clone, Copy)]
+#[derive(Clone, Copy, Debug, PartialEq, Eq)]
 pub struct Measured {
-    pub smallest: Difference,
+    pub smallest: Option<i64>,
     pub difference: i64,
 }
 
 // A slot is taken at a window with this difference, and leads to the stage `then`. A start slot does not count.
-pub fn measure(slot: u8, smallest: Difference, difference: i64, then: Stage) -> Measured
+pub fn measure(slot: u8, smallest: Option<i64>, difference: i64, then: Stage) -> Measured
     ensures { result ≡ measured_by slot smallest difference then }
 {
     let least = least_with(smallest, difference);
@@ -46,39 +39,33 @@ pub fn measure(slot: u8, smallest: Difference, difference: i64, then: Stage) -> 
 }
 
 // The smaller of the smallest difference so far and one more.
-fn least_with(smallest: Difference, difference: i64) -> i64
+fn least_with(smallest: Option<i64>, difference: i64) -> i64
     ensures { result ≡ least_with smallest difference }
 {
     match smallest {
-        Difference::None => difference,
-        Difference::Of(least) => {
-            if difference < least {
-                difference
-            } else {
-                least
-            }
-        }
+        None => difference,
+        Some(least) => difference.min(least),
     }
 }
 
 // What a stage keeps of the smallest difference: while it waits the character goes on, and otherwise it is over.
-fn kept_in(stage: Stage, least: i64) -> Difference
+fn kept_in(stage: Stage, least: i64) -> Option<i64>
     ensures { result ≡ kept_in stage least }
 {
     match stage {
-        Stage::Searching => Difference::None,
-        Stage::Waiting { wait, slot, byte } => Difference::Of(least),
-        Stage::Held => Difference::None,
+        Stage::Waiting { .. } => Some(least),
+        Stage::Searching | Stage::Held => None,
     }
 }
 
 // The difference is in its range beside a stage: present exactly where a data slot has been taken, and never negative.
-pub fn is_kept(stage: Stage, smallest: Difference) -> bool
+#[tactic(auto, unfolding(crate::specs::Quality::is_kept))]
+pub fn is_kept(stage: Stage, smallest: Option<i64>) -> bool
     ensures { result ≡ is_kept stage smallest }
 {
     match smallest {
-        Difference::None => !is_gathering(stage),
-        Difference::Of(least) => is_gathering(stage) && 0 <= least,
+        None => !is_gathering(stage),
+        Some(least) => is_gathering(stage) && 0 <= least,
     }
 }
 
@@ -86,9 +73,5 @@ pub fn is_kept(stage: Stage, smallest: Difference) -> bool
 fn is_gathering(stage: Stage) -> bool
     ensures { result ≡ is_gathering stage }
 {
-    match stage {
-        Stage::Searching => false,
-        Stage::Waiting { wait, slot, byte } => 2 <= slot && slot <= 9,
-        Stage::Held => false,
-    }
+    matches!(stage, Stage::Waiting { slot: 2..=9, .. })
 }

@@ -9,7 +9,7 @@ use lib.IntN.{ℤ}
 use lib.ListN.{length, length-append, length-map}
 use Rattle.calls.specs.Runs.{gives}
 use Rattle.control.specs.Rules.{reported}
-use Rattle.control.proofs.Ranges.{control-stage}
+use Rattle.control.proofs.Ranges.{control_stage}
 use Rattle.control.proofs.Counting.{elapsed, control_slow, elapsed_most}
 use Rattle.quality.specs.Quality.{least_with, tracked_after, measured}
 use Rattle.quality.proofs.Laws.{numbers-only}
@@ -31,7 +31,7 @@ events_slow s (x ∷ xs) =
 
 -- from a state in its ranges, n samples bring at most n / 48 + 1 events
 pub events-few : (s : Receiver) (xs : List ℤ) → in_range s ≡ true → length (events_after s xs) ≤ places_for (length xs)
-events-few s xs h = omega (arith, events_slow s xs, elapsed_most s.stage (control-stage (control_of s) (in_range_lem s h).control))
+events-few s xs h = omega (arith, events_slow s xs, elapsed_most s.stage (control_stage (control_of s) (in_range_lem s h).control))
 
 -- their numbers are the events
 pub measured-numbers : (s : Receiver) (xs : List ℤ) → map (λ (e : ℕ × ℤ). e.0) (measured_after s xs) ≡ events_after s xs

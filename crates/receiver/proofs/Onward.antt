@@ -11,10 +11,10 @@ use lib.Dec.{leb}
 use lib.IntN.{ℤ, pos}
 use lib.ListN.{length}
 use lib.Seq.{slice, slice_empty, length-slice}
+use Rattle.std.specs.Prelude.{Option, None}
 use Rattle.integers.proofs.Tests.{cond-split}
 use Rattle.calls.specs.Runs.{with_index}
 use Rattle.control.specs.declared.Decision.{Decision}
-use Rattle.control.specs.declared.Event.TheVariants.{Nothing}
 use Rattle.control.specs.declared.Next.{Next}
 use Rattle.control.specs.declared.Stage.{Stage}
 use Rattle.control.specs.declared.Stage.TheVariants.{Waiting}
@@ -24,7 +24,6 @@ use Rattle.control.specs.AsCoded.{is_found, wait_over, run_over, NoneFound}
 use Rattle.control.proofs.Rules.{wait_parts, IsSearch}
 use Rattle.control.proofs.Ranges.{wait_low, stage_wait, stage-slot}
 use Rattle.control.proofs.Stretches.{run-low, found_other, none_short, none_more, none_last}
-use Rattle.quality.specs.declared.Difference.{Difference}
 use Rattle.quality.specs.declared.Measured.{Measured}
 use Rattle.quality.specs.Quality.{least_with, takes_bit}
 use Rattle.quality.specs.AsCoded.{measured_by}
@@ -47,7 +46,7 @@ module _ (ds : List Decision) (p : Place) where
     pub none : NoneFound space (run_at ds p) (slice p.next i ds)
 
   -- the slot of a wait is taken at i, with a good level or without one
-  pub record SlotTaken (stage : Stage) (q : Difference) (i : ℕ) (n : Next) (m : Measured) : Type 0 where
+  pub record SlotTaken (stage : Stage) (q : Option ℤ) (i : ℕ) (n : Next) (m : Measured) : Type 0 where
     pub good : (judged ds i).good ≡ true → Onward ds p stage q (slot_to n m (moved_to p (i + 1) i))
     pub bad : (judged ds i).good ≡ false → Onward ds p stage q (slot_to n m (exactly (i + 1) 0))
 
@@ -143,12 +142,12 @@ module _ (ds : List Decision) (p : Place) where
 
     -- ---- from the place on
 
-    module _ (stage : Stage) (q : Difference) where
+    module _ (stage : Stage) (q : Option ℤ) where
       -- the decisions from the place to i lead to this stage and this difference, with these events
-      abbrev Led : ℕ → Stage → Difference → List ((ℕ × ℤ) × ℕ) → Type 0
+      abbrev Led : ℕ → Stage → Option ℤ → List ((ℕ × ℤ) × ℕ) → Type 0
       Led i = Leads p.next (state_at ds p stage q) (slice p.next i ds) (run_before ds p i)
 
-      led_more : (i : ℕ) {s : Stage} {r : Difference} → p.next ≤ i → i < length ds → Led i s r [] → (n : Next)
+      led_more : (i : ℕ) {s : Stage} {r : Option ℤ} → p.next ≤ i → i < length ds → Led i s r [] → (n : Next)
           → n ≡ next_of s (run_before ds p (i + 1)) (judged ds i)
           → Led (i + 1) n.stage (behind s r (judged ds i).difference n.stage)
           (with_index i (numbers_with (least_with r (judged ds i).difference) n.event))
@@ -168,7 +167,7 @@ module _ (ds : List Decision) (p : Place) where
           }
 
     -- what a search comes to
-    pub search_onward : {space : Bool} {stage next : Stage} → IsSearch space stage next → takes_bit stage ≡ false → (q : Difference) (s : Sought)
+    pub search_onward : {space : Bool} {stage next : Stage} → IsSearch space stage next → takes_bit stage ≡ false → (q : Option ℤ) (s : Sought)
         → Seeks ds p space s → Onward ds p stage q (sought_to s stage next q)
     search_onward {space} {stage} {next} f none q s k =
         let i : ℕ = s.place.next - 1 in
@@ -184,7 +183,7 @@ module _ (ds : List Decision) (p : Place) where
 
     -- ---- a wait
 
-    module _ (wait slot byte : ℕ) (k : is_stage (Waiting wait slot byte) ≡ true) (q : Difference) where
+    module _ (wait slot byte : ℕ) (k : is_stage (Waiting wait slot byte) ≡ true) (q : Option ℤ) where
       led_wait : (i : ℕ) → p.next ≤ i → i - p.next < wait → i ≤ length ds
           → Led (Waiting wait slot byte) q i (Waiting (wait - (i - p.next)) slot byte) q []
       led_wait i h b l =
@@ -194,7 +193,7 @@ module _ (ds : List Decision) (p : Place) where
       -- it goes on to i
       pub wait_on : (i left : ℕ) → p.next < i → i - p.next < wait → i ≤ length ds → left ≡ wait - (i - p.next)
           → Onward ds p (Waiting wait slot byte) q
-          (record { place = moved_to p i i; stage = Waiting left slot byte; smallest = q; event = Nothing; difference = pos 0 })
+          (record { place = moved_to p i i; stage = Waiting left slot byte; smallest = q; event = None; difference = pos 0 })
       wait_on i left h b l e =
           rw e (onward_led (Waiting wait slot byte) q _ h (place_moved ds p v i (omega arith) l) refl (led_wait i (omega arith) b l))
 

@@ -9,6 +9,7 @@ use native.Mathlib.Omega.{arith}
 use lib.IntN.{ℤ}
 use lib.ListN.{length, take, drop, length-append, length-drop, length-map, drop_of_length-le}
 use lib.Seq.{sets, length-take-le, drop-append-add, slice, length-slice}
+use Rattle.std.specs.Prelude.{Option}
 use Rattle.integers.proofs.Lists.{slice_rest}
 use Rattle.calls.specs.Runs.{after, indexed, with_index}
 use Rattle.calls.proofs.Runs.{run_laws}
@@ -20,7 +21,6 @@ use Rattle.control.specs.declared.Stage.{Stage}
 use Rattle.control.specs.Ranges.{is_control}
 use Rattle.control.specs.Rules.{numbers}
 use Rattle.control.proofs.Ranges.{control-run, follow_kept}
-use Rattle.quality.specs.declared.Difference.{Difference}
 use Rattle.quality.specs.declared.Tracked.{Tracked}
 use Rattle.quality.specs.Quality.{tracked_after, measured, track, measures, measures_from}
 use Rattle.quality.proofs.Laws.{control_part}
@@ -87,12 +87,12 @@ module _ (ds : List Decision) (lent : List ℕ) (lent-differences : List ℤ) (l
   abbrev all : List ((ℕ × ℤ) × ℕ)
   all = measures_from 0 c ds
 
-  abbrev rest : Place → Stage → Difference → List ((ℕ × ℤ) × ℕ)
+  abbrev rest : Place → Stage → Option ℤ → List ((ℕ × ℤ) × ℕ)
   rest at stage q = measures_from at.next (state_at ds at stage q) (drop at.next ds)
 
   -- the reading has come to this place, stage and difference, and the events so far stand in `events`, with their differences in `noted` and
   -- their indices in `told`
-  pub record Scanning (events : List ℕ) (noted : List ℤ) (told : List ℕ) (at : Place) (stage : Stage) (q : Difference) (count : ℕ) : Type 0 where
+  pub record Scanning (events : List ℕ) (noted : List ℤ) (told : List ℕ) (at : Place) (stage : Stage) (q : Option ℤ) (count : ℕ) : Type 0 where
     pub place : IsPlace ds at
     pub control : is_control (control_at ds at stage) ≡ true
     pub reached : track (state_at ds at stage q) (drop at.next ds) ≡ track c ds
@@ -118,7 +118,7 @@ module _ (ds : List Decision) (lent : List ℕ) (lent-differences : List ℤ) (l
         counted = omega (arith, ap (λ (u : Tracked). length (measures_from 0 u ds)) here);
       })
 
-  module _ {events : List ℕ} {noted : List ℤ} {told : List ℕ} {at : Place} {stage : Stage} {q : Difference} {count : ℕ}
+  module _ {events : List ℕ} {noted : List ℤ} {told : List ℕ} {at : Place} {stage : Stage} {q : Option ℤ} {count : ℕ}
       (s : Scanning events noted told at stage q count) where
     -- read on
     module _ (t : Turn) (o : Onward ds at stage q t) where

@@ -2,7 +2,7 @@
 -- places among them with what is known of the run there, and how a search or a wait goes on from one place to another. Nothing here has to
 -- be believed to read the contracts of the public calls. The definitions are ours.
 -- Assumes nothing.
-use Rattle.std.specs.Prelude.{◌≡◌, Bool, false, true, cond, List, ◌++◌, map, ℕ, ◌+◌, ◌-◌, ◌*◌, ◌<◌, ◌≤◌, ltb, leb, eqb, ℤ, pos, ◌+ℤ◌, ◌*ℤ◌, length, get_or, take, drop}
+use Rattle.std.specs.Prelude.{◌≡◌, Bool, false, true, cond, List, ◌++◌, map, ℕ, ◌+◌, ◌-◌, ◌*◌, ◌<◌, ◌≤◌, ltb, leb, eqb, ℤ, pos, ◌+ℤ◌, ◌*ℤ◌, length, get_or, take, drop, Option, None}
 use Rattle.std.proofs.lemmas.List.Edits.{sets}
 use Rattle.std.proofs.Math.Seq.{slice}
 use Rattle.integers.specs.Sums.{dot, Bounded}
@@ -13,11 +13,9 @@ use Rattle.tones.specs.Samples.{are_samples}
 use Rattle.control.specs.declared.Bit.TheVariants.{Doubtful}
 use Rattle.control.specs.declared.Decision.{Decision}
 use Rattle.control.specs.declared.Stage.{Stage}
-use Rattle.control.specs.declared.Event.TheVariants.{Nothing}
 use Rattle.control.specs.declared.Control.{Control}
 use Rattle.control.specs.Rules.{numbers}
 use Rattle.control.specs.AsCoded.{is_found, run_over, NoneFound}
-use Rattle.quality.specs.declared.Difference.{Difference}
 use Rattle.quality.specs.declared.Tracked.{Tracked}
 use Rattle.quality.specs.Quality.{track, measures, measures_from}
 use Rattle.weighing.specs.Weighing.{decided}
@@ -102,7 +100,7 @@ run_at ds p = run_before ds p p.next
 abbrev pub control_at : List Decision → Place → Stage → Control
 control_at ds p stage = record { run = run_at ds p; stage = stage }
 
-abbrev pub state_at : List Decision → Place → Stage → Difference → Tracked
+abbrev pub state_at : List Decision → Place → Stage → Option ℤ → Tracked
 state_at ds p stage q = record { control = control_at ds p stage; smallest = q }
 
 -- before decision i, where the run is known
@@ -131,16 +129,16 @@ abbrev pub missed_at : Place → Sought
 missed_at p = record { place = p; found = false }
 
 -- what a search in a stage comes to: the stage `next` if it is found, and else it goes on; the difference stays as it is
-abbrev pub sought_to : Sought → Stage → Stage → Difference → Turn
+abbrev pub sought_to : Sought → Stage → Stage → Option ℤ → Turn
 sought_to s stage next q =
-    record { place = s.place; stage = cond s.found next stage; smallest = q; event = Nothing; difference = pos 0 }
+    record { place = s.place; stage = cond s.found next stage; smallest = q; event = None; difference = pos 0 }
 
 -- the events of a turn, each with its difference
 abbrev pub told_by : Turn → List (ℕ × ℤ)
 told_by t = map (λ n. (n, t.difference)) (numbers t.event)
 
 -- Reading on from the place p comes to the place, the stage and the difference of t, and brings its event, with the last decision.
-pub record Onward (ds : List Decision) (p : Place) (stage : Stage) (q : Difference) (t : Turn) : Type 0 where
+pub record Onward (ds : List Decision) (p : Place) (stage : Stage) (q : Option ℤ) (t : Turn) : Type 0 where
   pub later : p.next < t.place.next
   pub place : IsPlace ds t.place
   pub state : track (state_at ds p stage q) (slice p.next t.place.next ds) ≡ state_at ds t.place t.stage t.smallest

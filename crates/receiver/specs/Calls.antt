@@ -1,14 +1,13 @@
 -- The receiver's calls: the specification, "Reader, step by step", "Refused calls" and "Quality beside each character". Each has its table of
 -- refusals, in the specification's order.
 -- Assumes nothing.
-use Rattle.std.specs.Prelude.{Bool, cond, not, ◌&&◌, List, [], ◌∷◌, ℕ, ◌+◌, ◌/◌, min, ltb, ℤ, pos, length, replicate}
+use Rattle.std.specs.Prelude.{Bool, cond, not, ◌&&◌, List, [], ◌∷◌, ℕ, ◌+◌, ◌/◌, min, ltb, ℤ, pos, length, replicate, None}
 use Rattle.calls.specs.Refusals.{Test, test, first_of}
 use Rattle.calls.specs.Outcome.{Outcome, Lending, unless_refused, accepted_in, one_list, both_in}
 use Rattle.tones.specs.Bands.{is_band}
 use Rattle.tones.specs.Samples.{most_samples, are_samples}
 use Rattle.control.specs.declared.Stage.TheVariants.{Searching}
 use Rattle.control.specs.Ranges.{is_control}
-use Rattle.quality.specs.declared.Difference.TheVariants.{None}
 use Rattle.quality.specs.Quality.{is_kept}
 use Rattle.receiver.specs.declared.Receiver.{Receiver}
 use Rattle.receiver.specs.declared.Opened.{Opened}

@@ -18,7 +18,6 @@ mod seek;
 
 use calls::Answer;
 use control::{Control, Stage};
-use quality::Difference;
 
 // The most events of a block: the places that the longest one needs.
 pub const MOST_EVENTS: usize = tones::MOST_SAMPLES / 48 + 1;
@@ -31,7 +30,7 @@ pub struct Receiver {
     pub band: u8,
     pub run: u8,
     pub stage: Stage,
-    pub smallest: Difference,
+    pub smallest: Option<i64>,
 }
 
 // What an opening answers: 0 and the fresh state, or the number of a refusal and the fresh state of band 1.

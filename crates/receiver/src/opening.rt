@@ -4,7 +4,6 @@ ghost use Rattle.receiver.specs.Calls.{fresh};
 
 use super::Receiver;
 use control::Stage;
-use quality::Difference;
 
 pub(crate) fn fresh(band: u8) -> Receiver
     ensures { result ≡ fresh band }
@@ -14,6 +13,6 @@ pub(crate) fn fresh(band: u8) -> Receiver
         window: [0i16; 32],
         run: 0,
         stage: Stage::Searching,
-        smallest: Difference::None,
+        smallest: None,
     }
 }

@@ -13,7 +13,7 @@ use super::moves::Place;
 use super::seek::Sought;
 use super::{energy, moves, seek};
 use control::{Asked, Control, Event, Stage};
-use quality::{Difference, Tracked};
+use quality::Tracked;
 
 // Where a stage comes to: the place, and there the stage and the smallest difference; the event of the last window, and the difference that
 // it carries.
@@ -21,8 +21,8 @@ use quality::{Difference, Tracked};
 pub(crate) struct Turn {
     pub place: Place,
     pub stage: Stage,
-    pub smallest: Difference,
-    pub event: Event,
+    pub smallest: Option<i64>,
+    pub event: Option<Event>,
     pub difference: i64,
 }
 
@@ -96,12 +96,12 @@ pub(crate) fn scan(
 
 // The same difference, made anew. A copy has the bytes between its tag and its number too; carried from turn to turn they were copied in
 // pieces, for which the processor waits.
-fn anew(smallest: Difference) -> Difference
+fn anew(smallest: Option<i64>) -> Option<i64>
     ensures { result ≡ smallest }
 {
     match smallest {
-        Difference::None => Difference::None,
-        Difference::Of(least) => Difference::Of(least),
+        None => None,
+        Some(least) => Some(least),
     }
 }
 
@@ -112,7 +112,7 @@ fn go_on(
     weights: &[i16],
     place: Place,
     stage: Stage,
-    smallest: Difference,
+    smallest: Option<i64>,
 ) -> Turn
     requires source { IsSource weights.now head.now samples.now }
     requires place { IsPlace (decisions_by weights.now head.now samples.now) place × (place.next < length samples.now) }
@@ -135,11 +135,11 @@ fn go_on(
 }
 
 // What a search in a stage comes to: the stage `then` if it is found, and else it goes on. It tells nothing.
-fn as_turn(s: Sought, stage: Stage, then: Stage, smallest: Difference) -> Turn
+fn as_turn(s: Sought, stage: Stage, then: Stage, smallest: Option<i64>) -> Turn
     ensures { result ≡ sought_to s stage then smallest }
 {
     let place = s.place;
-    let event = Event::Nothing;
+    let event = None;
     Turn {
         place,
         stage: if s.found { then } else { stage },
@@ -158,7 +158,7 @@ fn wait_for(
     wait: u8,
     slot: u8,
     byte: u8,
-    smallest: Difference,
+    smallest: Option<i64>,
 ) -> Turn
     requires source { IsSource weights.now head.now samples.now }
     requires place { IsPlace (decisions_by weights.now head.now samples.now) place × (place.next < length samples.now) }
@@ -177,7 +177,7 @@ fn wait_for(
                 byte,
             },
             smallest,
-            event: Event::Nothing,
+            event: None,
             difference: 0,
         };
     }
@@ -212,7 +212,7 @@ fn put_event(
     differences: &mut [i64],
     indices: &mut [u16],
     at: usize,
-    event: Event,
+    event: Option<Event>,
     difference: i64,
     index: u16,
 ) -> usize
@@ -223,9 +223,9 @@ fn put_event(
     ensures told { indices.new ≡ sets indices.old at (map (λ n. index) (numbers event)) }
 {
     match event {
-        Event::Nothing => at,
-        Event::Number(number) => {
-            events[at] = number;
+        None => at,
+        Some(event) => {
+            events[at] = u16::from(event);
             differences[at] = difference;
             put_index(indices, at, index);
             at + 1

@@ -9,12 +9,11 @@ use native.Mathlib.Omega.{arith}
 use borrow.Author.Tests.{ne_eqb}
 use lib.Dec.{eqb}
 use lib.IntN.{ℤ}
+use Rattle.std.specs.Prelude.{Option, Some, None}
 use Rattle.calls.specs.Outcome.{Outcome, answer_of, outcome, refused}
 use Rattle.control.specs.declared.Stage.{Stage}
 use Rattle.control.specs.declared.Stage.TheVariants.{Searching, Waiting, Held}
 use Rattle.control.specs.Ranges.{is_stage, is_control}
-use Rattle.quality.specs.declared.Difference.{Difference}
-use Rattle.quality.specs.declared.Difference.TheVariants.{None, Of}
 use Rattle.quality.specs.Quality.{is_kept}
 use Rattle.receiver.specs.declared.Receiver.{Receiver}
 use Rattle.receiver.specs.declared.Reading.{Reading}
@@ -29,9 +28,9 @@ stage-stored Searching = refl
 stage-stored (Waiting wait slot byte) = refl
 stage-stored Held = refl
 
-difference_stored : (q : Difference) → (let d = difference_numbers q in difference_of d.0 d.1) ≡ q
+difference_stored : (q : Option ℤ) → (let d = difference_numbers q in difference_of d.0 d.1) ≡ q
 difference_stored None = refl
-difference_stored (Of least) = refl
+difference_stored (Some least) = refl
 
 pub state-stored : (s : Receiver) → receiver_of (numbers_of s) ≡ s
 state-stored s i =

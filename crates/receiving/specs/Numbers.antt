@@ -1,12 +1,10 @@
 -- A receiver's state as numbers, in a form that is ours (decision 22), and the calls on them: the specification, "Reader, step by step"
 -- and "Refused calls".
 -- Assumes nothing.
-use Rattle.std.specs.Prelude.{cond, List, ℕ, eqb, ℤ, pos, negsuc}
+use Rattle.std.specs.Prelude.{cond, List, ℕ, eqb, ℤ, pos, negsuc, Option, Some, None}
 use Rattle.calls.specs.Outcome.{Outcome}
 use Rattle.control.specs.declared.Stage.{Stage}
 use Rattle.control.specs.declared.Stage.TheVariants.{Searching, Waiting, Held}
-use Rattle.quality.specs.declared.Difference.{Difference}
-use Rattle.quality.specs.declared.Difference.TheVariants.{None, Of}
 use Rattle.receiver.specs.declared.Receiver.{Receiver}
 use Rattle.receiver.specs.declared.Opened.{Opened}
 use Rattle.receiver.specs.declared.Reading.{Reading}
@@ -31,13 +29,13 @@ stage_of stage wait slot byte =
 -- ---- a smallest difference
 
 -- its numbers: whether there is one, and which
-abbrev pub difference_numbers : Difference → ℕ × ℤ
+abbrev pub difference_numbers : Option ℤ → ℕ × ℤ
 difference_numbers None = (0, pos 0)
-difference_numbers (Of least) = (1, least)
+difference_numbers (Some least) = (1, least)
 
 -- the difference of numbers: 0 is none and 1 the number beside it; any other is taken as -1, which is out of the ranges
-abbrev pub difference_of : ℕ → ℤ → Difference
-difference_of measured smallest = cond (eqb measured 0) None (cond (eqb measured 1) (Of smallest) (Of (negsuc 0)))
+abbrev pub difference_of : ℕ → ℤ → Option ℤ
+difference_of measured smallest = cond (eqb measured 0) None (cond (eqb measured 1) (Some smallest) (Some (negsuc 0)))
 
 -- ---- a state
 

@@ -10,7 +10,6 @@ ghost use Rattle.receiving.specs.Numbers.{receiver_of, numbers_of, opened_number
 pub mod testing;
 
 use control::Stage;
-use quality::Difference;
 use receiver::{Reading, Receiver};
 
 // A receiver's state as numbers, since C has no enums with fields. Stage 0 is searching, stage 1 is waiting, with its wait, slot and byte, and stage 2 is a held break; where
@@ -129,9 +128,9 @@ impl From<State> for Receiver {
             },
         };
         let smallest = match n.measured {
-            0 => Difference::None,
-            1 => Difference::Of(n.smallest),
-            _ => Difference::Of(-1),
+            0 => None,
+            1 => Some(n.smallest),
+            _ => Some(-1),
         };
         Receiver {
             window,
@@ -155,8 +154,8 @@ impl From<Receiver> for State {
             Stage::Held => (2, 0, 0, 0),
         };
         let (measured, smallest) = match s.smallest {
-            Difference::None => (0, 0),
-            Difference::Of(least) => (1, least),
+            None => (0, 0),
+            Some(least) => (1, least),
         };
         State {
             band: s.band,

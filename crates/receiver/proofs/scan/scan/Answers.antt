@@ -10,9 +10,9 @@ use lib.Seq.{sets}
 use mir.Facts.{to_z-of_z}
 use mir.Syntax.{w64}
 use mir.Val.{SFits}
+use Rattle.std.specs.Prelude.{ℤ, Option}
 use Rattle.control.specs.declared.Decision.{Decision}
-use Rattle.control.proofs.Ranges.{control-stage}
-use Rattle.quality.specs.declared.Difference.{Difference}
+use Rattle.control.proofs.Ranges.{control_stage}
 use Rattle.quality.specs.declared.Tracked.{Tracked}
 use Rattle.quality.specs.Quality.{measures}
 use Rattle.quality.proofs.Stretches.{tracked}
@@ -22,7 +22,7 @@ use Rattle.receiver.proofs.Scanning.{window-each, scanning_start, scanning_room,
 use Rattle.receiver.proofs.scan.scan.Goals as goal
 
 -- the state that the loop begins with is the one that was handed in
-handed : (first : Tracked) (q : Difference) → q ≡ first.smallest → tracked first.control.run first.control.stage q ≡ first
+handed : (first : Tracked) (q : Option ℤ) → q ≡ first.smallest → tracked first.control.run first.control.stage q ≡ first
 handed first q e i = record { control = first.control; smallest = e i }
 
 pub loop-place-init : goal.loop-place-init
@@ -36,7 +36,7 @@ go_on-t-requires c =
     record {
       source = c.requires.source;
       place = (c.loop-place.invariant.place, c.loop-place-test.true);
-      stage_value = control-stage _ c.loop-place.invariant.control;
+      stage_value = control_stage _ c.loop-place.invariant.control;
     }
 
 pub index_before-requires : goal.index_before-requires

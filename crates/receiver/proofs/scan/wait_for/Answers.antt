@@ -11,13 +11,13 @@ use lib.ListN.{length}
 use mir.Facts.{to_z-of_z}
 use mir.Syntax.{w64}
 use mir.Val.{SFits}
+use Rattle.std.specs.Prelude.{ℤ, Option}
 use Rattle.control.specs.declared.Decision.{Decision}
 use Rattle.control.specs.declared.Next.{Next}
 use Rattle.control.specs.declared.Stage.TheVariants.{Waiting}
 use Rattle.control.specs.Ranges.{is_stage}
 use Rattle.control.specs.AsCoded.{wait_over}
 use Rattle.control.proofs.Ranges.{wait_low, wait_high, stage_wait}
-use Rattle.quality.specs.declared.Difference.{Difference}
 use Rattle.quality.specs.declared.Measured.{Measured}
 use Rattle.quality.specs.AsCoded.{measured_by}
 use Rattle.receiver.specs.declared.moves.Place.{Place}
@@ -50,7 +50,7 @@ returns-then-end-i c =
     (omega (arith, c.wide.ensures)) (omega (arith, window-each c.requires.source)) (omega (arith, c.narrow.ensures, c.wide.ensures)))
 
 -- the slot is taken
-taken : {ds : List Decision} {p : Place} → IsPlace ds p → (wait slot byte : ℕ) → is_stage (Waiting wait slot byte) ≡ true → (q : Difference)
+taken : {ds : List Decision} {p : Place} → IsPlace ds p → (wait slot byte : ℕ) → is_stage (Waiting wait slot byte) ≡ true → (q : Option ℤ)
     → (width : ℕ) → width ≡ wait → p.next + width - 1 < length ds → (d : Decision) → d ≡ judged ds (p.next + width - 1)
     → (n : Next) → n ≡ wait_over slot byte d → (m : Measured) → m ≡ measured_by slot q d.difference n.stage
     → SlotTaken ds p (Waiting wait slot byte) q (p.next + width - 1) n m
