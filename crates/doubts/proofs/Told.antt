@@ -20,6 +20,7 @@ use Rattle.tones.specs.Samples.{are_between}
 use Rattle.tones.proofs.Laws.{band-digit}
 use Rattle.control.specs.declared.Bit.TheVariants.{Doubtful}
 use Rattle.control.specs.declared.Decision.{Decision}
+use Rattle.control.specs.declared.event.Event.TheVariants.{DoubtfulBit}
 use Rattle.control.specs.declared.Stage.{Stage}
 use Rattle.control.specs.declared.Stage.TheVariants.{Waiting}
 use Rattle.control.specs.declared.Control.{Control}
@@ -65,7 +66,7 @@ module _ (s : Receiver) (x : ℤ) where
       ap (λ (d : Decision). d.bit) (decision_ℕ (tones_of s.band) (entered s.window x))
       ∙ (weighed_means (space_at s x) (mark_at s x) Doubtful).1 h
 
-  next : Doubted s x → next_of s.stage run d ≡ report bit_doubtful
+  next : Doubted s x → next_of s.stage run d ≡ report DoubtfulBit
   next k =
       let slot : ℕ = k.slot in
       let nz : slot ≡ 0 → ⊥ = λ z. omega (arith, k.no_start) in
@@ -74,7 +75,7 @@ module _ (s : Receiver) (x : ℤ) where
 
   pub told-exactly : ToldExactly s x
   unfolding events_at
-  told-exactly h = (only, λ k. events-reported (control_of s) d run (report bit_doubtful) refl (sym (next k)))
+  told-exactly h = (only, λ k. events-reported (control_of s) d run (report DoubtfulBit) refl (sym (next k)))
     where
       only : events_at s x ≡ bit_doubtful ∷ [] → Doubted s x
       only e =
@@ -90,7 +91,7 @@ module _ (s : Receiver) (x : ℤ) where
           }
 
   pub then_searches : ThenSearches s x
-  then_searches k = ap (λ (c : Control). c.stage) (control-sample s x ∙ control-after (control_of s) d run (report bit_doubtful) refl (sym (next k)))
+  then_searches k = ap (λ (c : Control). c.stage) (control-sample s x ∙ control-after (control_of s) d run (report DoubtfulBit) refl (sym (next k)))
 
 -- ---- that there are such bits: in the window with half a mark bit and half a space bit behind it, at the phase 0
 

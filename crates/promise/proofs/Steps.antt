@@ -8,6 +8,7 @@ use native.Mathlib.Nat.{le_refl}
 use native.Mathlib.Numerals.{sub-one}
 use native.Mathlib.Omega.{arith}
 use Rattle.control.specs.declared.Decision.{Decision}
+use Rattle.control.specs.declared.event.Event.TheVariants.{Character}
 use Rattle.control.specs.declared.Next.{Next}
 use Rattle.control.specs.declared.Stage.{Stage}
 use Rattle.control.specs.declared.Stage.TheVariants.{Searching, Waiting}
@@ -89,5 +90,5 @@ finds d r {X} p = goes d r.good Searching (quiet (Waiting 16 0 0)) X (search_fou
 pub stops : {P : Invariant} (d : Decision) → Clear d 1 → (byte : ℕ) {X : List ℕ} → P (at 32 Searching) X
     → Moves P (at 32 (Waiting 1 9 byte)) d (byte ∷ X)
 stops d r byte {X} p =
-    goes d r.good (Waiting 1 9 byte) (report byte) X
+    goes d r.good (Waiting 1 9 byte) (report (Character byte)) X
     (wait_taken 32 d 1 9 byte refl ∙ stop_mark byte d 9 (λ z. omega arith) r.good (omega arith) r.weighed) p
