@@ -8,6 +8,7 @@ use Prim.Native.Nat.{ℕ, ◌+◌, ◌<◌, ◌≤◌}
 use native.Mathlib.Omega.{arith}
 use lib.IntN.{ℤ, nat_abs}
 use lib.ListN.{length, get_or, drop}
+use Rattle.std.specs.Prelude.{Some}
 use Rattle.integers.specs.All.{All}
 use Rattle.digits.specs.Numbers.{is_digit}
 use Rattle.digits.proofs.Numbers.{digit_low, digit-high, is_digit_lem}
@@ -45,7 +46,7 @@ headed t h =
 
 pub sheet_headed : (t : List ℕ) → is_sheet t ≡ true → Headed t
 unfolding is_sheet
-sheet_headed t h = headed t (and_elim_left (is_headed t) (is_start (line_after Start (drop 14 t))) h)
+sheet_headed t h = headed t (and_elim_left (is_headed t) (is_start (line_after (Some Start) (drop 14 t))) h)
 
 -- ---- both ways
 
@@ -64,7 +65,7 @@ taken_sheet : (t : List ℕ) → is_sheet t ≡ true → IsSheetOf t (band_in t)
 unfolding is_sheet sheet_of
 taken_sheet t h =
     let head = sheet_headed t h in
-    let end = is_start_lem (line_after Start (drop 14 t)) (and_elim_right (is_headed t) (is_start (line_after Start (drop 14 t))) h) in
+    let end = is_start_lem (line_after (Some Start) (drop 14 t)) (and_elim_right (is_headed t) (is_start (line_after (Some Start) (drop 14 t))) h) in
     let lines = lines-written (drop 14 t) end in
     record { written = head.cut ∙ ap (λ (r : List ℕ). head_of (48 + band_in t) ++ r) lines.0; digit = head.digit; four = lines.1 }
 

@@ -8,15 +8,13 @@ ghost use Rattle.sheet.specs.Text.{head_of};
 // The most bytes of a sheet.
 pub const MOST_BYTES: usize = 65536;
 
-// Where the reading stands in a sample's line: before its first byte, behind a minus, behind the line's only 0, in a number,
-// or behind something that no line has.
-#[derive(Clone, Copy)]
+// Where the reading stands in a sample's line: before its first byte, behind a minus, behind the line's only 0, or in a number.
+#[derive(Clone, Copy, Debug, PartialEq, Eq)]
 pub enum Line {
     Start,
     Minus,
     Zero,
     Number { negative: bool, size: u16 },
-    Bad,
 }
 
 // The three lines above the samples.

@@ -1,1 +1,3 @@
+pub mod Head
+pub mod Judged
 pub mod Passes

@@ -1,1 +1,2 @@
 pub mod AsCoded
+pub mod Reading

@@ -2,36 +2,35 @@
 #![tactic(auto)]
 
 ghost use Rattle.std.specs.Prelude.{◌≡◌};
-ghost use Rattle.calls.specs.Outcome.{outcome};
 ghost use Rattle.sheet.specs.Calls.{read_of};
+ghost use Rattle.sheet_reader.specs.Reading.{reading};
 
 mod parse;
 mod reader;
 
-use calls::Answer;
+use calls::Refusal;
+use reader::Seen;
 
-// What a reading answers: the band, 0 for a refusal, and the number with the count of samples.
-#[derive(Clone, Copy)]
-pub struct Parsed {
+// What is read: the band and the count of samples.
+#[derive(Clone, Copy, Debug, PartialEq, Eq)]
+pub struct Sheet {
     pub band: u8,
-    pub answer: Answer,
+    pub count: usize,
 }
 
 // Reads a sheet. Its samples go to the buffer's front.
-#[tactic(auto, using(crate::proofs::Passes::is_refused))]
-pub fn read(text: &[u8], out: &mut [i16]) -> Parsed
-    ensures { outcome result.answer result.band out.new ≡ read_of text.now out.old }
+pub fn read(text: &[u8], out: &mut [i16]) -> Result<Sheet, Refusal>
+    ensures { reading result out.new ≡ read_of text.now out.old }
 {
-    let number = reader::refusal(text, out.len());
-    if number != 0 {
-        return Parsed {
-            band: 0,
-            answer: Answer { number, count: 0 },
-        };
+    if text.len() > sheet::MOST_BYTES {
+        return Err(Refusal::SheetTooLong);
     }
-    let count = reader::fill(text, out);
-    Parsed {
-        band: text[5] - 48,
-        answer: Answer { number: 0, count },
-    }
+    let (band, lines) = reader::split(text).ok_or(Refusal::NotASheet)?;
+    let seen = Seen::of(lines).ok_or(Refusal::NotASheet)?;
+    seen.check(band, out.len())?;
+    reader::fill(lines, out);
+    Ok(Sheet {
+        band,
+        count: seen.count,
+    })
 }

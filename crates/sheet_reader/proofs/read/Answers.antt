@@ -1,49 +1,45 @@
 -- `sheet_reader::read` meets its contract.
 -- Assumes nothing.
-use mathlib.Core.Path.{◌≡◌, sym, ◌∙◌}
-use mathlib.Core.List.{List}
-use Prim.Native.Nat.{ℕ}
-use native.Mathlib.Omega.{arith}
-use lib.IntN.{ℤ}
-use lib.ListN.{length}
-use Rattle.integers.proofs.Lists.{sets-front}
-use Rattle.calls.specs.Refusals.{first_of}
-use Rattle.calls.proofs.Refusals.{not-refused}
-use Rattle.sheet.specs.Calls.{read_tests, read_of}
-use Rattle.sheet.specs.Parse.{band_in, samples_of}
-use Rattle.sheet.proofs.Calls.{Readable, readable}
-use Rattle.sheet.proofs.Inverse.{Headed, sheet_headed}
+use Rattle.std.proofs.Common.{rules, ◌≡◌, ◌∙◌, false, None, Some, Err}
+use Rattle.calls.specs.declared.Refusal.TheVariants.{SheetTooLong, NotASheet}
+use Rattle.sheet.specs.Parse.{is_headed}
+use Rattle.sheet.proofs.Calls.{read_6}
+use Rattle.sheet_reader.specs.AsCoded.{IsHead, seen_of}
+use Rattle.sheet_reader.proofs.Judged.{refused_as, headless_7, lineless_7, ended, judged, accepted_as}
 use Rattle.sheet_reader.proofs.read.Goals as goal
+use Rattle.sheet_reader.proofs.read.Goals.{After-branch-seen}
 
--- nothing is refused
-module _ (text : List ℕ) (lent : List ℤ) (number : ℕ) (judged : number ≡ first_of (read_tests text (length lent))) (zero : number ≡ 0) where
-  none : first_of (read_tests text (length lent)) ≡ 0
-  none = sym judged ∙ zero
+pub returns-then-text-gt-MOST_BYTES : goal.returns-then-text-gt-MOST_BYTES
+returns-then-text-gt-MOST_BYTES c = refused_as _ _ SheetTooLong (read_6 _ _ c.if-text-gt-MOST_BYTES.true)
 
-  can : Readable text (length lent)
-  can = readable text (length lent) none
+pub returns-in_err-band : goal.returns-in_err-band
+returns-in_err-band c =
+    let h : is_headed c.args.text.now ≡ false = search rules in
+    let e : c.from_residual.result ≡ Err NotASheet = search rules in
+    rw e (refused_as _ _ NotASheet (headless_7 _ c.args.out.now c.if-text-gt-MOST_BYTES.false h))
 
-  has-head : Headed text
-  has-head = sheet_headed text can.form
+pub returns-in_err-seen : goal.returns-in_err-seen
+returns-in_err-seen c =
+    let h : IsHead c.args.text.now c.in_ok-band.band c.in_ok-band.lines.now = search rules in
+    let n : None ≡ seen_of c.in_ok-band.lines.now = search rules in
+    let e : c.from_residual-in_err-seen.result ≡ Err NotASheet = search rules in
+    rw e (refused_as _ _ NotASheet (lineless_7 _ c.args.out.now c.if-text-gt-MOST_BYTES.false h n))
 
-pub fill-count-requires : goal.fill-count-requires
-fill-count-requires c = (can c.args.text.now c.args.out.now _ c.refusal-number.ensures (omega arith)).places
+pub returns-in_err-check : goal.returns-in_err-check
+returns-in_err-check c =
+    let h : IsHead c.args.text.now c.in_ok-band.band c.in_ok-band.lines.now = search rules in
+    let s : Some c.in_ok-seen.seen ≡ seen_of c.in_ok-band.lines.now = search rules in
+    let e : c.from_residual-in_err-check.result ≡ Err c.in_err-check.field-0.0 = search rules in
+    rw e (refused_as _ _ _ (c.in_err-check.ensures ∙ judged _ c.args.out.now c.if-text-gt-MOST_BYTES.false h _ s))
 
-pub bounds-text-5 : goal.bounds-text-5
-bounds-text-5 c =
-    let h = has-head c.args.text.now c.args.out.now _ c.refusal-number.ensures (omega arith) in
-    omega (arith, h.long)
-
-pub overflow_sub-result : goal.overflow_sub-result
-overflow_sub-result c = (has-head c.args.text.now c.args.out.now _ c.refusal-number.ensures (omega arith)).low
+pub fill-requires-clause-ended : goal.fill-requires-clause-ended
+fill-requires-clause-ended c =
+    let h : IsHead c.args.text.now c.in_ok-band.band c.in_ok-band.lines.now = search rules in
+    let s : Some c.in_ok-seen.seen ≡ seen_of c.in_ok-band.lines.now = search rules in
+    ended _ c.args.out.now c.if-text-gt-MOST_BYTES.false h _ s
 
 pub returns : goal.returns
-unfolding read_of
 returns c =
-    let text = c.args.text.now in
-    let lent = c.args.out.now in
-    let w = can text lent _ c.refusal-number.ensures (omega arith) in
-    let p = c.fill-count.ensures in
-    let filled = p.lent ∙ sets-front (samples_of text) lent w.places in
-    (λ i. record { number = 0; count = p.count i; state = band_in text; lent = filled i })
-    ∙ sym (not-refused (read_tests text (length lent)) 0 lent _ (none text lent _ c.refusal-number.ensures (omega arith)))
+    let h : IsHead c.args.text.now c.in_ok-band.band c.in_ok-band.lines.now = search rules in
+    let s : Some c.in_ok-seen.seen ≡ seen_of c.in_ok-band.lines.now = search rules in
+    accepted_as _ c.args.out.now c.if-text-gt-MOST_BYTES.false h _ s c.in_ok-check.ensures _ c.fill.ensures
