@@ -25,11 +25,8 @@ pub fn demodulate(text: &[u8], out: &mut [u8; MOST_PRINTED]) -> usize
     ensures front { Front result out.new }
 {
     let mut samples = [0i16; tones::MOST_SAMPLES];
-    let sheet = sheet_reader::read(text, &mut samples);
-    let answer = sheet.answer;
-    if answer.number != 0 {
-        return put_refusal(out, answer.number);
+    match sheet_reader::read(text, &mut samples) {
+        Ok(sheet) => events::put_events_of(sheet.band, &samples[..sheet.count], out),
+        Err(refusal) => put_refusal(out, refusal.into()),
     }
-    let n = answer.count;
-    events::put_events_of(sheet.band, &samples[..n], out)
 }

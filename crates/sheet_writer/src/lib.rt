@@ -2,24 +2,18 @@
 #![tactic(auto)]
 
 ghost use Rattle.std.specs.Prelude.{◌≡◌};
-ghost use Rattle.calls.specs.Outcome.{outcome};
+ghost use Rattle.calls.specs.Outcome.{as_answer, outcome};
 ghost use Rattle.sheet.specs.Calls.{write_of};
 
 mod writer;
 
-use calls::Answer;
+use calls::Refusal;
 
-// Writes the sheet of a band and samples to the buffer's front.
-#[tactic(auto, using(crate::proofs::Writing::is_refused))]
-pub fn write(band: u8, samples: &[i16], out: &mut [u8]) -> Answer
-    ensures { outcome result tt out.new ≡ write_of band samples.now out.old }
+// Writes the sheet of a band and samples to the buffer's front, and gives its length.
+pub fn write(band: u8, samples: &[i16], out: &mut [u8]) -> Result<usize, Refusal>
+    ensures { outcome (as_answer result) tt out.new ≡ write_of band samples.now out.old }
 {
-    let number = writer::refusal(band, samples, out.len());
-    if number != 0 {
-        return Answer { number, count: 0 };
-    }
-    let head = sheet::head_of(48 + band);
-    calls::put(out, 0, &head);
-    let count = writer::put_lines(out, samples);
-    Answer { number: 0, count }
+    writer::check(band, samples, out.len())?;
+    calls::put(out, 0, &sheet::head_of(b'0' + band));
+    Ok(writer::put_lines(out, samples))
 }

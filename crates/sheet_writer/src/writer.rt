@@ -1,33 +1,36 @@
 // Writing: what a band and samples are refused with, and the lines of those that are not.
-ghost use Rattle.std.specs.Prelude.{◌≡◌, [], ◌∷◌, ◌++◌, ◌+◌, ◌*◌, ◌≤◌, length};
+ghost use Rattle.std.specs.Prelude.{◌≡◌, ◌+◌, ◌*◌, ◌^◌, ◌<◌, ◌≤◌, length, sum_by};
 ghost use Rattle.std.proofs.lemmas.List.Edits.{sets};
-ghost use Rattle.calls.specs.Refusals.{first_of};
+ghost use Rattle.calls.specs.Refusals.{refusal_number, first_of};
 ghost use Rattle.tones.specs.Samples.{most_samples};
-ghost use Rattle.digits.specs.Numbers.{decimal};
 ghost use Rattle.sheet.specs.Text.{line_of, lines_of};
 ghost use Rattle.sheet.specs.Calls.{most_bytes, write_tests};
 
-// The number of the first reason to refuse, or 0.
-pub(crate) fn refusal(band: u8, samples: &[i16], room: usize) -> u8
-    ensures { result ≡ first_of (write_tests band samples.now room) }
+use arrayvec::ArrayVec;
+use calls::Refusal;
+
+// The first reason to refuse.
+#[tactic(auto, using(crate::proofs::Lengths::lengths))]
+pub(crate) fn check(band: u8, samples: &[i16], room: usize) -> Result<(), Refusal>
+    ensures { refusal_number result ≡ first_of (write_tests band samples.now room) }
 {
     if !tones::is_band(band) {
-        return 1;
+        return Err(Refusal::UnknownBand);
     }
-    if tones::MOST_SAMPLES < samples.len() {
-        return 3;
+    if samples.len() > tones::MOST_SAMPLES {
+        return Err(Refusal::TooMany);
     }
     if !tones::are_samples(samples) {
-        return 5;
+        return Err(Refusal::SampleOutOfRange);
     }
     let n = 14 + lines_len(samples);
-    if sheet::MOST_BYTES < n {
-        return 6;
+    if n > sheet::MOST_BYTES {
+        return Err(Refusal::SheetTooLong);
     }
-    if room < n {
-        return 4;
+    if n > room {
+        return Err(Refusal::TooFewPlaces);
     }
-    0
+    Ok(())
 }
 
 // A line for each sample, behind the three above them. Gives the length of the whole sheet.
@@ -36,61 +39,34 @@ pub(crate) fn put_lines(out: &mut [u8], samples: &[i16]) -> usize
     ensures count { result ≡ 14 + length (lines_of samples.now) }
     ensures lent { out.new ≡ sets out.old 14 (lines_of samples.now) }
 {
-    let mut at: usize = 14;
-    let mut i: usize = 0;
-    while i < samples.len() {
-        at = put_line(out, at, samples[i]);
-        i += 1;
+    let mut at = 14;
+    for &sample in samples {
+        let line = line_of(sample);
+        calls::put(out, at, &line);
+        at += line.len();
     }
     at
 }
 
-// Puts the line of a sample from the place `at` on, and gives the place behind it.
-fn put_line(out: &mut [u8], at: usize, sample: i16) -> usize
-    requires { at + length (line_of sample) ≤ most_bytes }
-    ensures place { result ≡ at + length (line_of sample) }
-    ensures lent { out.new ≡ sets out.old at (line_of sample) }
-{
-    let n = digits::magnitude(sample);
-    if sample < 0 {
-        calls::put(out, at, b"-");
-        return put_number(out, at + 1, n);
-    }
-    put_number(out, at, n)
-}
-
-// A number and a line feed likewise.
-fn put_number(out: &mut [u8], at: usize, n: u16) -> usize
-    requires { at + length (decimal n ++ (10 ∷ [])) ≤ most_bytes }
-    ensures place { result ≡ at + length (decimal n ++ (10 ∷ [])) }
-    ensures lent { out.new ≡ sets out.old at (decimal n ++ (10 ∷ [])) }
-{
-    let len = text::put_decimal(out, at, n);
-    calls::put(out, at + len, b"\n");
-    at + len + 1
-}
-
 // The length of all lines. No line has more than 6 bytes.
 fn lines_len(samples: &[i16]) -> usize
-    requires { length (lines_of samples.now) ≤ 6 * most_samples }
-    ensures { result ≡ length (lines_of samples.now) }
+    requires { sum_by (λ z. length (line_of z)) samples.now < 2 ^ 64 }
+    ensures { result ≡ sum_by (λ z. length (line_of z)) samples.now }
 {
-    let mut n: usize = 0;
-    let mut i: usize = 0;
-    while i < samples.len() {
-        n += line_len(samples[i]);
-        i += 1;
-    }
-    n
+    samples.iter().map(|&sample| line_of(sample).len()).sum()
 }
 
-fn line_len(sample: i16) -> usize
-    ensures { result ≡ length (line_of sample) }
+// The line of a sample: a minus if it is negative, its digits, and the line feed.
+#[tactic(auto, unfolding(sheet::specs::Text::line_of))]
+fn line_of(sample: i16) -> ArrayVec<u8, 7>
+    ensures { result.items ≡ line_of sample }
 {
-    let digits = digits::decimal(digits::magnitude(sample));
+    let mut line = ArrayVec::new();
     if sample < 0 {
-        digits.len() + 2
-    } else {
-        digits.len() + 1
+        line.push(b'-');
     }
+    let digits = digits::decimal(sample.unsigned_abs());
+    line.try_extend_from_slice(&digits).unwrap();
+    line.push(b'\n');
+    line
 }

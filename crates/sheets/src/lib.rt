@@ -21,12 +21,17 @@ pub struct Sheet {
 pub extern "C" fn modem_sheet_read(text: &[u8], samples: &mut [i16]) -> Sheet
     ensures { outcome (answer_of result.number result.count) result.band samples.new ≡ read_of text.now samples.old }
 {
-    let parsed = sheet_reader::read(text, samples);
-    let answer = parsed.answer;
-    Sheet {
-        number: answer.number,
-        band: parsed.band,
-        count: answer.count,
+    match sheet_reader::read(text, samples) {
+        Ok(sheet) => Sheet {
+            number: 0,
+            band: sheet.band,
+            count: sheet.count,
+        },
+        Err(refusal) => Sheet {
+            number: refusal.into(),
+            band: 0,
+            count: 0,
+        },
     }
 }
 
@@ -35,5 +40,5 @@ pub extern "C" fn modem_sheet_read(text: &[u8], samples: &mut [i16]) -> Sheet
 pub extern "C" fn modem_sheet_write(band: u8, samples: &[i16], text: &mut [u8]) -> Answer
     ensures { outcome result tt text.new ≡ write_of band samples.now text.old }
 {
-    sheet_writer::write(band, samples, text)
+    sheet_writer::write(band, samples, text).into()
 }

@@ -1,14 +1,15 @@
 -- `demodulator::demodulate` meets its contract: a sheet that is accepted has a known band and samples in range.
 -- Assumes nothing.
-use mathlib.Core.Path.{◌≡◌, sym, ap, ap₂, ◌∙◌}
+use mathlib.Core.Path.{◌≡◌, refl, sym, ap, ap₂, ◌∙◌}
 use mathlib.Core.List.{List}
 use Prim.Native.Nat.{ℕ, ◌≤◌}
 use native.Mathlib.Omega.{arith}
 use borrow.Author.Rules.{rules}
 use lib.IntN.{ℤ, pos}
 use lib.ListN.{length, replicate, take}
-use Rattle.calls.specs.Refusals.{first_of}
+use Rattle.calls.specs.Refusals.{number_of, first_of}
 use Rattle.calls.specs.Outcome.{Outcome, accepted}
+use Rattle.calls.proofs.Refusals.{numbered}
 use Rattle.calls.proofs.Answers.{Answered, given-front, given_part, given_room}
 use Rattle.tones.specs.Samples.{most_samples}
 use Rattle.receiver.specs.Step.{events_after}
@@ -53,39 +54,38 @@ module _ (text : List ℕ) (read : Outcome ℕ (List ℤ)) (e : read ≡ read_of
     front : take read.count read.lent ≡ samples_of text
     front = given-front (band_in text) (samples_of text) zeros read given
 
-pub returns-then-answer-ne0 : goal.returns-then-answer-ne0
-returns-then-answer-ne0 c =
+pub returns-in-Err : goal.returns-in-Err
+returns-in-Err c =
     let p = c.put_refusal.ensures in
     let t = c.args.text.now in
+    let number : c.into.result ≡ number_of c.in-Err.refusal = search rules in
     let places : length c.args.out.now ≡ most_printed = search rules in
     let l : length c.put_refusal.new.out ≡ length c.args.out.now = search rules in
     let all = printed _ _ _ _ p.count (p.lent ∙ refusal-over _ _ (search rules) (omega (arith, places))) l (demodulated t)
-    (reading_refused t _ (answer t _ c.read-sheet.ensures).told c.if-answer-ne0.true) in
+    (reading_refused t _ (number ∙ (answer t _ c.in-Err.ensures).told) (λ z. numbered c.in-Err.refusal (sym number ∙ z))) in
     record { count = all.0; lent = all.1.0; front = all.1.1 }
 
 pub slice_bounds-samples-end : goal.slice_bounds-samples-end
-slice_bounds-samples-end c = room c.args.text.now _ c.read-sheet.ensures c.if-answer-ne0.false
+slice_bounds-samples-end c = room c.args.text.now _ c.in-Ok.ensures refl
 
 pub slice_bounds-put_events_of-end : goal.slice_bounds-put_events_of-end
-slice_bounds-put_events_of-end c = part c.args.text.now _ c.read-sheet.ensures c.if-answer-ne0.false
+slice_bounds-put_events_of-end c = part c.args.text.now _ c.in-Ok.ensures refl
 
 pub put_events_of-requires : goal.put_events_of-requires
 put_events_of-requires c =
     let t = c.args.text.now in
-    let r = c.read-sheet.ensures in
-    let zero = c.if-answer-ne0.false in
-    let a = all t _ r zero in
+    let r = c.in-Ok.ensures in
+    let a = all t _ r refl in
     let l : length c.args.out.now ≡ most_printed = search rules in
-    rw (band_read t _ r zero, front t _ r zero)
+    rw (band_read t _ r refl, front t _ r refl)
     (record { band_value = a.band; samples_len_bound = a.few; samples_value = a.sound; most_printed_in_bounds = omega (arith, l) })
 
-pub returns : goal.returns
-returns c =
+pub returns-in-Ok : goal.returns-in-Ok
+returns-in-Ok c =
     let p = c.put_events_of.ensures in
     let t = c.args.text.now in
-    let r = c.read-sheet.ensures in
-    let zero = c.if-answer-ne0.false in
+    let r = c.in-Ok.ensures in
     let l : length c.put_events_of.new.out ≡ length c.args.out.now = search rules in
-    let events = ap₂ (λ (b : ℕ) (xs : List ℤ). events_after (fresh b) xs) (band_read t _ r zero) (front t _ r zero) in
-    let all = printed _ _ _ _ p.count p.lent l (demodulated t) (ap events_text events ∙ reading_accepted t (none t _ r zero)) in
+    let events = ap₂ (λ (b : ℕ) (xs : List ℤ). events_after (fresh b) xs) (band_read t _ r refl) (front t _ r refl) in
+    let all = printed _ _ _ _ p.count p.lent l (demodulated t) (ap events_text events ∙ reading_accepted t (none t _ r refl)) in
     record { count = all.0; lent = all.1.0; front = all.1.1 }
