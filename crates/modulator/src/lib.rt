@@ -61,5 +61,5 @@ fn write(band: u8, bytes: &[u8], out: &mut [u8]) -> Answer
         return Answer { number, count: 0 };
     }
     let n = sent.count;
-    sheet_writer::write(band, &samples[..n], out)
+    sheet_writer::write(band, &samples[..n], out).into()
 }

@@ -51,7 +51,8 @@ slice_bounds-write-end c =
 pub returns : goal.returns
 returns c =
     let a = c.args in
-    c.write.ensures
+    rw c.into.ensures
+    (c.write.ensures
     ∙ ap (λ (xs : List ℤ). write_of a.band xs a.out.now)
     (given-front tt (message_of a.band a.bytes.now) zeros _ (given a.band a.bytes.now _ c.send-sent.ensures c.if-number-ne0.false))
-    ∙ sheet_written a.band a.bytes.now a.out.now (none a.band a.bytes.now _ c.send-sent.ensures c.if-number-ne0.false) c.requires
+    ∙ sheet_written a.band a.bytes.now a.out.now (none a.band a.bytes.now _ c.send-sent.ensures c.if-number-ne0.false) c.requires)
