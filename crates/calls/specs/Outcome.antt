@@ -29,8 +29,13 @@ pub record Opening (S : Type 0) : Type 0 where
   pub number : ℕ
   pub state : S
 
-abbrev pub opened : {S : Type 0} → Answered S Unit → Opening S
-opened r = record { number = refusal_number r.answer; state = r.state }
+module _ {S : Type 0} where
+  -- the same, where the code gives the two apart, and where it gives a refusal in place of a number
+  abbrev pub opening_of : ℕ → S → Opening S
+  opening_of number state = record { number = number; state = state }
+
+  abbrev pub opened : Answered S Unit → Opening S
+  opened r = opening_of (refusal_number r.answer) r.state
 
 -- a list over the front of another one, whose places behind are untouched
 abbrev pub over : {A : Type 0} → List A → List A → List A

@@ -5,7 +5,7 @@ use Rattle.std.specs.Prelude.{◌≡◌, Bool, true, false, cond, List, [], ◌�
 use Rattle.calls.specs.declared.Refusal.{Refusal}
 use Rattle.calls.specs.declared.Refusal.TheVariants.{UnknownBand, StateOutOfRange, TooMany, TooFewPlaces, SampleOutOfRange, SheetTooLong, NotASheet, NotAPair}
 
--- its number in the table; 8 is ours, for bands that are no pair
+-- its number in the table; 8, of bands that are no pair, is that of "Both directions on one tap"
 abbrev pub number_of : Refusal → ℕ
 number_of UnknownBand = 1
 number_of StateOutOfRange = 2

@@ -7,7 +7,7 @@ ghost use Rattle.std.proofs.lemmas.List.Edits.{sets};
 ghost use Rattle.calls.specs.Refusals.{number_of};
 ghost use Rattle.calls.specs.Outcome.{as_answer};
 
-// Why a call is refused: the table of the specification, "Refused calls", from its number 1 on. `NotAPair` is ours, of the calls on two bands.
+// Why a call is refused, in the order of the numbers from 1 on: the specification, "Refused calls"; the last is of the calls on two bands.
 #[derive(Clone, Copy, Debug, PartialEq, Eq)]
 pub enum Refusal {
     UnknownBand,

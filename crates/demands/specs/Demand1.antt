@@ -29,7 +29,7 @@ pub record WholeSheet (text : List ℕ) (lent : List ℤ) (o : Outcome ℕ (List
 pub record Demand1 : Type 0 where
   -- an opening gives the fresh state of its band, or of band 1; a tap's that of its pair, or of bands 1 and 2
   pub transmitter_opening : (band : ℕ) → let o = transmitter.open_of band in
-      Opens (1 ∷ []) (transmitter.open_tests band) (transmitter.fresh band) (transmitter.fresh 1) o.number o.transmitter
+      Opens (1 ∷ []) (transmitter.open_tests band) (transmitter.fresh band) (transmitter.fresh 1) o.number o.state
   pub receiver_opening : (band : ℕ) → let o = receiver.open_of band in
       Opens (1 ∷ []) (receiver.open_tests band) (receiver.fresh band) (receiver.fresh 1) o.number o.receiver
   pub tap_opening : (first second : ℕ) → let o = tap.open_of first second in

@@ -46,7 +46,7 @@ pub fn loopback(
     if number != 0 {
         return Answer { number, count: 0 };
     }
-    let sent = message::send(band, characters, samples);
+    let sent = Answer::from(message::send(band, characters, samples));
     let end = sent.count;
     disturb::disturb(&mut samples[..end], disturbance);
     let count = receive::receive(band, &samples[..end], size, events, differences);

@@ -9,11 +9,13 @@ use borrow.Author.Tests.{le-ltb, ltb-false, not-false}
 use lib.IntN.{ℤ}
 use lib.ListN.{length}
 use lib.Seq.{sets}
+use Rattle.std.specs.Prelude.{Ok, Err}
 use Rattle.integers.specs.All.{none, more}
 use Rattle.integers.proofs.Lists.{sets-front}
-use Rattle.calls.specs.Refusals.{Test, first_of}
-use Rattle.calls.specs.Outcome.{Outcome, refused, accepted}
-use Rattle.calls.proofs.Refusals.{NoneHolds, none-holds, not-refused, is-refused}
+use Rattle.calls.specs.declared.Refusal.{Refusal}
+use Rattle.calls.specs.Refusals.{number_of, Test, first_of}
+use Rattle.calls.specs.Outcome.{Outcome, as_answer, outcome, accepted}
+use Rattle.calls.proofs.Refusals.{NoneHolds, none-holds, answer_refused, answer_accepted}
 use Rattle.calls.proofs.Answers.{Answered, answered}
 use Rattle.tones.specs.Bands.{is_band, tones_of}
 use Rattle.transmitter.specs.Calls.{most_characters}
@@ -47,18 +49,18 @@ module _ (band : ℕ) (bytes : List ℕ) (lent : List ℤ) where
   abbrev whole : Outcome Unit (List ℤ)
   whole = accepted tt (message_of band bytes) lent
 
-  pub send-refused : (n : ℕ) → n ≡ first_of tests → (n ≡ 0 → ⊥) → refused n tt lent ≡ send_of band bytes lent
+  pub send_refused : (r : Refusal) → number_of r ≡ first_of tests → outcome (as_answer (Err r)) tt lent ≡ send_of band bytes lent
   unfolding send_of
-  send-refused = is-refused tests tt lent whole
+  send_refused = answer_refused tests tt lent whole
 
-  pub send-accepted : first_of tests ≡ 0 → (count : ℕ) (now : List ℤ) → count ≡ samples_for (length bytes)
-      → now ≡ sets lent 0 (message_of band bytes) → record { number = 0; count = count; state = tt; lent = now } ≡ send_of band bytes lent
+  pub send_accepted : 0 ≡ first_of tests → (count : ℕ) (now : List ℤ) → count ≡ samples_for (length bytes)
+      → now ≡ sets lent 0 (message_of band bytes) → outcome (as_answer (Ok count)) tt now ≡ send_of band bytes lent
   unfolding send_of
-  send-accepted e count now ec en =
-      let size = ec ∙ sym (length-samples band bytes) in
-      let room = (sendable band (length bytes) (length lent) e).room in
-      let filled = en ∙ sets-front (message_of band bytes) lent (omega (arith, length-samples band bytes, room)) in
-      (λ i. record { number = 0; count = size i; state = tt; lent = filled i }) ∙ sym (not-refused tests tt lent whole e)
+  send_accepted e count now ec en =
+      let size = length-samples band bytes in
+      let room = (sendable band (length bytes) (length lent) (sym e)).room in
+      answer_accepted tests tt lent e tt (message_of band bytes) count now (ec ∙ sym size)
+      (en ∙ sets-front (message_of band bytes) lent (omega (arith, size, room)))
 
   pub send_answer : (o : Outcome Unit (List ℤ)) → o ≡ send_of band bytes lent → Answered tt (message_of band bytes) lent (first_of tests) o
   unfolding send_of

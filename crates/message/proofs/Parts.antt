@@ -9,11 +9,11 @@ use borrow.Rule.Slice.PartMut.{mid_of, post_of, put_mid}
 use lib.IntN.{ℤ}
 use lib.ListN.{length, take, drop, length-drop, drop_of_length-le}
 use lib.Seq.{sets, sets-eq, drop-drop, take_all}
-use Rattle.integers.proofs.Lists.{sets_three}
+use Rattle.integers.proofs.Lists.{sets_three, sets-front}
+use Rattle.calls.specs.declared.Answer.{Answer}
 use Rattle.calls.specs.Outcome.{Outcome, outcome}
 use Rattle.tones.specs.Bands.{is_band, tones_of}
 use Rattle.transmitter.specs.declared.Transmitter.{Transmitter}
-use Rattle.transmitter.specs.declared.Sent.{Sent}
 use Rattle.transmitter.specs.Samples.{bit_steps, idle_bits, characters_bits}
 use Rattle.transmitter.specs.Calls.{fresh, in_range, samples_of, after_bits, sent}
 use Rattle.transmitter.proofs.Laws.{length_bits, length-characters, message-parts}
@@ -41,15 +41,33 @@ module _ (old : List ℤ) (at : ℕ) where
       ∙ ap (λ (l : List ℤ). take at old ++ l) (append-nil (xs ++ drop (length xs) (drop at old)) ∙ ap (λ (l : List ℤ). xs ++ l) (drop-drop (length xs) at old))
       ∙ sym (sets-eq xs old at h ∙ append_assoc (take at old) xs (drop (at + length xs) old))
 
--- a call that was accepted there: r is what it gave, and `now` what it left
-module _ (s : Transmitter) (bits : List ℕ) (old : List ℤ) (at : ℕ) (r : Sent) (now : List ℤ) where
-  pub sent_part : at + 32 * length bits ≤ length old → outcome r.answer r.transmitter now ≡ sent s bits (part old at)
-      → (r.transmitter ≡ after_bits s bits) × (put_mid at (length old - at) old now ≡ sets old at (samples_of s bits))
-  sent_part h e = (
-    ap (λ (o : Outcome Transmitter (List ℤ)). o.state) e,
-    ap (λ (o : Outcome Transmitter (List ℤ)). put_mid at (length old - at) old o.lent) e
-        ∙ filled old at (samples_of s bits) (omega (arith, length_bits (tones_of s.band) s.phase bits)),
-  )
+-- a call that was accepted: a, t and `now` are what it answered, the state that it gave, and what it left
+pub record Put (s : Transmitter) (bits : List ℕ) (old : List ℤ) (at : ℕ) (t : Transmitter) (now : List ℤ) : Type 0 where
+  pub state : t ≡ after_bits s bits
+  pub lent : now ≡ sets old at (samples_of s bits)
+
+module _ (s : Transmitter) (bits : List ℕ) (old : List ℤ) (a : Answer) (t : Transmitter) (now : List ℤ) where
+  long : length (samples_of s bits) ≡ 32 * length bits
+  long = length_bits (tones_of s.band) s.phase bits
+
+  -- it was lent the whole buffer
+  pub put_whole : 32 * length bits ≤ length old → outcome a t now ≡ sent s bits old → Put s bits old 0 t now
+  put_whole h e =
+      record {
+        state = ap (λ (o : Outcome Transmitter (List ℤ)). o.state) e;
+        lent = ap (λ (o : Outcome Transmitter (List ℤ)). o.lent) e ∙ sym (sets-front (samples_of s bits) old (omega (arith, long)));
+      }
+
+  -- or its places from one on
+  pub put_part : (at : ℕ) → at + 32 * length bits ≤ length old → outcome a t now ≡ sent s bits (part old at)
+      → Put s bits old at t (put_mid at (length old - at) old now)
+  put_part at h e =
+      record {
+        state = ap (λ (o : Outcome Transmitter (List ℤ)). o.state) e;
+        lent =
+            ap (λ (o : Outcome Transmitter (List ℤ)). put_mid at (length old - at) old o.lent) e
+            ∙ filled old at (samples_of s bits) (omega (arith, long));
+      }
 
 pub characters-count : (bytes : List ℕ) → 32 * length (characters_bits bytes) ≡ 320 * length bytes
 characters-count bytes = omega (arith, length-characters bytes)

@@ -13,7 +13,7 @@ use calls::Answer;
 pub extern "C" fn modem_message_send(band: u8, bytes: &[u8], out: &mut [i16]) -> Answer
     ensures { outcome result tt out.new ≡ send_of band bytes.now out.old }
 {
-    message::send(band, bytes, out)
+    message::send(band, bytes, out).into()
 }
 
 // Sends a message, adds the numbers of `disturbance` sample by sample, and reads the result in blocks of `block` samples.

@@ -55,7 +55,7 @@ fn write(band: u8, bytes: &[u8], out: &mut [u8]) -> Answer
     ensures { outcome result tt out.new ≡ sheet_call band bytes.now out.old }
 {
     let mut samples = [0i16; MOST_SENT];
-    let sent = message::send(band, bytes, &mut samples);
+    let sent = Answer::from(message::send(band, bytes, &mut samples));
     let number = sent.number;
     if number != 0 {
         return Answer { number, count: 0 };

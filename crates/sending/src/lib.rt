@@ -2,11 +2,30 @@
 #![tactic(auto)]
 
 ghost use Rattle.std.specs.Prelude.{◌≡◌};
-ghost use Rattle.calls.specs.Outcome.{answer_of, outcome};
+ghost use Rattle.calls.specs.Outcome.{opened, opening_of, answer_of, as_answer, outcome};
 ghost use Rattle.transmitter.specs.Calls.{open_of, idle_of, characters_of};
 
-use calls::Answer;
-use transmitter::{Opened, Transmitter};
+use calls::{Answer, Answered};
+use transmitter::Transmitter;
+
+// What an opening answers: 0 and the fresh state, or the number of a refusal and the fresh state of band 1.
+#[repr(C)]
+#[derive(Clone, Copy)]
+pub struct Opened {
+    pub number: u8,
+    pub transmitter: Transmitter,
+}
+
+impl From<Answered<Transmitter, ()>> for Opened {
+    ghost from_gives = { λ r c. opening_of c.number c.transmitter ≡ opened r };
+
+    fn from(opened: Answered<Transmitter, ()>) -> Opened {
+        Opened {
+            number: opened.answer.err().map_or(0, u8::from),
+            transmitter: opened.state,
+        }
+    }
+}
 
 // What a sending call answers: the next state, and number and count of samples as fields of their own.
 #[repr(C)]
@@ -17,12 +36,25 @@ pub struct Sending {
     pub count: usize,
 }
 
+impl From<Answered<Transmitter, usize>> for Sending {
+    ghost from_gives = { λ r c. (c.transmitter ≡ r.state) × (answer_of c.number c.count ≡ as_answer r.answer) };
+
+    fn from(sent: Answered<Transmitter, usize>) -> Sending {
+        let answer = Answer::from(sent.answer);
+        Sending {
+            transmitter: sent.state,
+            number: answer.number,
+            count: answer.count,
+        }
+    }
+}
+
 // The fresh state of a band.
 #[unsafe(no_mangle)]
 pub extern "C" fn modem_transmitter_open(band: u8) -> Opened
-    ensures { result ≡ open_of band }
+    ensures { opening_of result.number result.transmitter ≡ open_of band }
 {
-    Transmitter::open(band)
+    Transmitter::open(band).into()
 }
 
 // Sends three mark bits.
@@ -30,8 +62,7 @@ pub extern "C" fn modem_transmitter_open(band: u8) -> Opened
 pub extern "C" fn modem_transmitter_idle(transmitter: Transmitter, out: &mut [i16]) -> Sending
     ensures { outcome (answer_of result.number result.count) result.transmitter out.new ≡ idle_of transmitter out.old }
 {
-    let idle = transmitter.idle(out);
-    sending_of(idle.transmitter, idle.answer)
+    transmitter.idle(out).into()
 }
 
 // Sends bytes as characters.
@@ -44,16 +75,5 @@ pub extern "C" fn modem_transmitter_characters(
     ensures { outcome (answer_of result.number result.count) result.transmitter out.new
         ≡ characters_of transmitter bytes.now out.old }
 {
-    let sent = transmitter.characters(bytes, out);
-    sending_of(sent.transmitter, sent.answer)
-}
-
-fn sending_of(transmitter: Transmitter, answer: Answer) -> Sending
-    ensures { result ≡ record { transmitter = transmitter; number = answer.number; count = answer.count } }
-{
-    Sending {
-        transmitter,
-        number: answer.number,
-        count: answer.count,
-    }
+    transmitter.characters(bytes, out).into()
 }

@@ -11,13 +11,15 @@ use lib.ListN.{length, get_or, take, replicate, length-append, length-replicate,
 use lib.Pow.{shr-shr}
 use Rattle.integers.specs.Sums.{total, Bounded}
 use Rattle.integers.proofs.Sums.{bounded_none, bounded_more}
+use Rattle.calls.proofs.Runs.{RunLaws}
 use Rattle.sine.specs.Sine.{S}
 use Rattle.sine.specs.Wave.{wave}
 use Rattle.sine.proofs.Laws.{S_same, S_bound}
 use Rattle.sine.proofs.Wave.{wave-none, wave-more, wave_same}
 use Rattle.tones.specs.declared.Tones.{Tones}
-use Rattle.tones.specs.Bands.{step_of}
+use Rattle.tones.specs.Bands.{tones_of, step_of}
 use Rattle.transmitter.specs.Samples.{send, phase_after, bit_steps, send_bits, phase_bits, idle_bits, data_bits, char_bits, characters_bits, message_bits}
+use Rattle.transmitter.specs.Calls.{samples_of, after_bits}
 
 -- ---- steps
 
@@ -110,6 +112,17 @@ module _ (t : Tones) (p b : ℕ) where
 
   pub phase_bit : phase_bits t p (b ∷ []) ≡ (p + 32 * step_of t b) % 1920
   phase_bit = ap (phase_after p) run ∙ phase-run 31 (step_of t b) p
+
+-- sending bits from a state is a run over them
+pub sending_laws : RunLaws after_bits samples_of
+unfolding send phase_after bit_steps
+sending_laws =
+    record {
+      after_none = λ s. refl;
+      gives_none = λ s. refl;
+      after_append = λ s xs ys. λ i. record { band = s.band; phase = phase_bits_append (tones_of s.band) s.phase xs ys i };
+      gives_append = λ s. send_bits_append (tones_of s.band) s.phase;
+    }
 
 -- ---- characters
 

@@ -1,6 +1,6 @@
 -- Demand 2 over lists of calls, from the law of lists of calls and the laws of sending.
 -- Assumes nothing.
-use mathlib.Core.Path.{◌≡◌, refl, ◌∙◌, ap}
+use mathlib.Core.Path.{◌≡◌, ◌∙◌, ap}
 use mathlib.Core.Bool.{true}
 use mathlib.Core.List.{List}
 use mathlib.Mathlib.Data.Bool.Basic.{and_elim_left, and_elim_right, and_intro}
@@ -11,28 +11,16 @@ use lib.IntN.{ℤ, pos}
 use lib.ListN.{length, get_or}
 use Rattle.calls.specs.Outcome.{Outcome, refused}
 use Rattle.calls.specs.Lists.{state_after}
-use Rattle.calls.proofs.Runs.{RunLaws}
 use Rattle.calls.proofs.Lists.{one_keeps, IsRun, refused-run, accepted-run, joined-state, joined-front}
-use Rattle.tones.specs.Bands.{is_band, tones_of}
+use Rattle.tones.specs.Bands.{is_band}
 use Rattle.transmitter.specs.declared.Transmitter.{Transmitter}
-use Rattle.transmitter.specs.Samples.{send, phase_after, bit_steps}
-use Rattle.transmitter.specs.Calls.{in_range, samples_of, after_bits, sent}
+use Rattle.transmitter.specs.Samples.{send, phase_after}
+use Rattle.transmitter.specs.Calls.{in_range, sent}
 use Rattle.transmitter.specs.Lists.{Call, idle, characters, call_of, bits_of, samples_written, steps_sent, Continuous}
-use Rattle.transmitter.proofs.Laws.{length-send, send_at, phase-total, phase-below, send_bits_append, phase_bits_append}
+use Rattle.transmitter.proofs.Laws.{length-send, send_at, phase-total, phase-below, sending_laws}
 use Rattle.transmitter.proofs.Rules.{idle_case, characters_case}
 
--- sending bits from a state is a run over them
-sending_laws : RunLaws after_bits samples_of
-unfolding send phase_after bit_steps
-sending_laws =
-    record {
-      after_none = λ s. refl;
-      gives_none = λ s. refl;
-      after_append = λ s xs ys. λ i. record { band = s.band; phase = phase_bits_append (tones_of s.band) s.phase xs ys i };
-      gives_append = λ s. send_bits_append (tones_of s.band) s.phase;
-    }
-
--- each call is one
+-- each call is a run over its bits
 abbrev CallRuns : Call → Transmitter → Outcome Transmitter (List ℤ) → Type 0
 CallRuns c = IsRun one_keeps sending_laws (bits_of c)
 

@@ -10,48 +10,59 @@ use lib.ListN.{length, get_or, drop, drop_of_length-le}
 use lib.Seq.{sets, drop-cons}
 use Rattle.calls.proofs.Filling.{Filling, filling_start, filling_more, filling_end}
 use Rattle.sine.specs.Wave.{wave}
-use Rattle.tones.specs.declared.Tones.{Tones}
-use Rattle.tones.specs.Bands.{step_of}
-use Rattle.transmitter.specs.Samples.{send, phase_after, bit_steps, send_bits, phase_bits, characters_bits, char_bits}
-use Rattle.transmitter.proofs.Laws.{send_bits_append, phase_bits_append, length_bits, send_bit, phase_bit}
+use Rattle.tones.specs.Bands.{tones_of, step_of}
+use Rattle.transmitter.specs.declared.Transmitter.{Transmitter}
+use Rattle.transmitter.specs.Samples.{characters_bits, char_bits}
+use Rattle.transmitter.specs.Calls.{samples_of, after_bits}
+use Rattle.transmitter.proofs.Laws.{length_bits, send_bit, phase_bit, sending_laws}
 
--- the bits `all` are sent from `phase` into the buffer `lent` from the place `from` on; `rest` of them is still to be sent, from
--- the phase p, into the buffer as it is `now`, from the place `at` on
-pub record Progress (t : Tones) (phase : ℕ) (all : List ℕ) (lent : List ℤ) (from p : ℕ) (rest : List ℕ) (now : List ℤ) (at : ℕ) : Type 0 where
-  pub phases : phase_bits t p rest ≡ phase_bits t phase all
-  pub filling : Filling lent from (send_bits t phase all) now at (send_bits t p rest)
+-- the bits `all` are sent from the state s into the buffer `lent` from the place `from` on; `rest` of them is still to be sent, from
+-- the state `next`, into the buffer as it is `now`, from the place `at` on
+pub record Progress (s : Transmitter) (all : List ℕ) (lent : List ℤ) (from : ℕ) (next : Transmitter) (rest : List ℕ) (now : List ℤ) (at : ℕ) : Type 0 where
+  pub states : after_bits next rest ≡ after_bits s all
+  pub filling : Filling lent from (samples_of s all) now at (samples_of next rest)
 
-pub progress_start : (t : Tones) (phase : ℕ) (all : List ℕ) (lent : List ℤ) (from : ℕ) → Progress t phase all lent from phase all lent from
-progress_start t phase all lent from = record { phases = refl; filling = filling_start lent from (send_bits t phase all) }
+pub progress_start : (s : Transmitter) (all : List ℕ) (lent : List ℤ) (from : ℕ) → Progress s all lent from s all lent from
+progress_start s all lent from = record { states = refl; filling = filling_start lent from (samples_of s all) }
 
-module _ {t : Tones} {phase : ℕ} {all : List ℕ} {lent : List ℤ} {from p : ℕ} {rest : List ℕ} {now : List ℤ} {at : ℕ}
-    (h : Progress t phase all lent from p rest now at) where
+module _ {s : Transmitter} {all : List ℕ} {lent : List ℤ} {from : ℕ} {next : Transmitter} {rest : List ℕ} {now : List ℤ} {at : ℕ}
+    (h : Progress s all lent from next rest now at) where
   -- the bits xs are sent
-  pub progress_more : (xs ys : List ℕ) (p' at' : ℕ) (now' : List ℤ) → rest ≡ xs ++ ys → p' ≡ phase_bits t p xs → at' ≡ at + 32 * length xs
-      → now' ≡ sets now at (send_bits t p xs) → Progress t phase all lent from p' ys now' at'
-  progress_more xs ys p' at' now' split ep ea en =
-      rw (ep, en, place)
+  pub progress_more : (xs ys : List ℕ) (next' : Transmitter) (at' : ℕ) (now' : List ℤ) → rest ≡ xs ++ ys → next' ≡ after_bits next xs
+      → at' ≡ at + 32 * length xs → now' ≡ sets now at (samples_of next xs) → Progress s all lent from next' ys now' at'
+  progress_more xs ys next' at' now' split es ea en =
+      rw (es, en, place)
       (record {
-        phases = sym (phase_bits_append t p xs ys) ∙ ap (phase_bits t p) (sym split) ∙ h.phases;
-        filling = filling_more (send_bits t p xs) (send_bits t (phase_bits t p xs) ys) (rw (split, send_bits_append t p xs ys) at h.filling);
+        states = sym (sending_laws.after_append next xs ys) ∙ ap (after_bits next) (sym split) ∙ h.states;
+        filling = filling_more (samples_of next xs) (samples_of (after_bits next xs) ys) (rw (split, sending_laws.gives_append next xs ys) at h.filling);
       })
     where
-      place : at' ≡ at + length (send_bits t p xs)
-      place = ea ∙ ap (λ (n : ℕ). at + n) (sym (length_bits t p xs))
+      place : at' ≡ at + length (samples_of next xs)
+      place = ea ∙ ap (λ (n : ℕ). at + n) (sym (length_bits (tones_of next.band) next.phase xs))
 
-  -- one bit is sent: 32 samples of its step from the phase p
-  pub progress_bit : (b : ℕ) (ys : List ℕ) (step next at' : ℕ) (samples now' : List ℤ) → rest ≡ (b ∷ []) ++ ys → step ≡ step_of t b
-      → samples ≡ wave 32 step p → next ≡ (p + 32 * step) % 1920 → at' ≡ at + 32 → now' ≡ sets now at samples
-      → Progress t phase all lent from next ys now' at'
-  progress_bit b ys step next at' samples now' split es ew en ea eo =
-      progress_more (b ∷ []) ys next at' now' split
-      (en ∙ ap (λ (s : ℕ). (p + 32 * s) % 1920) es ∙ sym (phase_bit t p b)) ea
-      (eo ∙ ap (sets now at) (ew ∙ ap (λ (s : ℕ). wave 32 s p) es ∙ sym (send_bit t p b)))
+  -- one bit is sent: 32 samples of its step from the phase
+  pub progress_bit : (b : ℕ) (ys : List ℕ) (step phase at' : ℕ) (samples now' : List ℤ) → rest ≡ (b ∷ []) ++ ys
+      → step ≡ step_of (tones_of next.band) b → samples ≡ wave 32 step next.phase → phase ≡ (next.phase + 32 * step) % 1920
+      → at' ≡ at + 32 → now' ≡ sets now at samples → Progress s all lent from (record { band = next.band; phase = phase }) ys now' at'
+  progress_bit b ys step phase at' samples now' split es ew ep ea eo =
+      let t = tones_of next.band in
+      progress_more (b ∷ []) ys (record { band = next.band; phase = phase }) at' now' split
+      (ap (λ (p : ℕ). let s : Transmitter = record { band = next.band; phase = p } in s)
+      (ep ∙ ap (λ (u : ℕ). (next.phase + 32 * u) % 1920) es ∙ sym (phase_bit t next.phase b)))
+      ea
+      (eo ∙ ap (sets now at) (ew ∙ ap (λ (u : ℕ). wave 32 u next.phase) es ∙ sym (send_bit t next.phase b)))
 
   -- nothing is left
-  pub progress_end : rest ≡ [] → (p ≡ phase_bits t phase all) × (now ≡ sets lent from (send_bits t phase all))
-  unfolding bit_steps send phase_after
-  progress_end e = (sym (ap (phase_bits t p) e) ∙ h.phases, filling_end (rw e at h.filling))
+  pub record AllSent : Type 0 where
+    pub state : next ≡ after_bits s all
+    pub filled : now ≡ sets lent from (samples_of s all)
+
+  pub progress_end : rest ≡ [] → AllSent
+  progress_end e =
+      record {
+        state = sym (sending_laws.after_none next) ∙ sym (ap (after_bits next) e) ∙ h.states;
+        filled = filling_end (rw (e, sending_laws.gives_none next) at h.filling);
+      }
 
 -- the bits, and the characters' bits, that are left at an index
 pub bits_left : (bits : List ℕ) (i : ℕ) → i < length bits → drop i bits ≡ (get_or bits i 0 ∷ []) ++ drop (i + 1) bits

@@ -2,10 +2,9 @@
 -- Assumes nothing.
 use Rattle.std.specs.Prelude.{Bool, cond, not, ◌&&◌, List, [], ◌∷◌, ℕ, ◌*◌, ltb, ℤ, length}
 use Rattle.calls.specs.Refusals.{Test, test, first_of}
-use Rattle.calls.specs.Outcome.{Outcome, unless_refused, accepted}
+use Rattle.calls.specs.Outcome.{Opening, Outcome, unless_refused, accepted}
 use Rattle.tones.specs.Bands.{is_band, tones_of}
 use Rattle.transmitter.specs.declared.Transmitter.{Transmitter}
-use Rattle.transmitter.specs.declared.Opened.{Opened}
 use Rattle.transmitter.specs.Samples.{send_bits, phase_bits, idle_bits, characters_bits}
 
 -- a fresh transmitter has a band and phase 0
@@ -16,8 +15,8 @@ fresh band = record { band = band; phase = 0 }
 abbrev pub open_tests : ℕ → List Test
 open_tests band = test 1 (not (is_band band)) ∷ []
 
-unfoldable pub open_of : ℕ → Opened
-open_of band = record { number = first_of (open_tests band); transmitter = fresh (cond (is_band band) band 1) }
+unfoldable pub open_of : ℕ → Opening Transmitter
+open_of band = record { number = first_of (open_tests band); state = fresh (cond (is_band band) band 1) }
 
 -- the ranges of a state: a known band, and phase 0 to 1,919
 unfoldable pub in_range : Transmitter → Bool

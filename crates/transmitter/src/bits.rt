@@ -3,43 +3,42 @@
 ghost use Rattle.std.specs.Prelude.{◌≡◌, ◌+◌, ◌*◌, ◌%◌, ◌≤◌, length};
 ghost use Rattle.std.proofs.lemmas.List.Edits.{sets};
 ghost use Rattle.tones.specs.Bands.{step_of};
-ghost use Rattle.transmitter.specs.Samples.{char_bits, characters_bits, send_bits, phase_bits};
+ghost use Rattle.transmitter.specs.Samples.{char_bits, characters_bits};
+ghost use Rattle.transmitter.specs.Calls.{samples_of, after_bits};
 
+use crate::Transmitter;
 use calls::put;
 use tones::Tones;
 
-// Puts the samples of bits, 0 or 1 each, from the place `at` on, and answers the phase after them.
-pub(crate) fn put_bits(out: &mut [i16], at: usize, tones: Tones, phase: u16, bits: &[u8]) -> u16
-    requires { at + 32 * length bits.now ≤ length out.old }
-    ensures { (result ≡ phase_bits tones phase bits.now)
-        × (out.new ≡ sets out.old at (send_bits tones phase bits.now)) }
-{
-    let mut p = phase;
-    let mut i = 0;
-    while i < bits.len() {
-        let step = step_of(tones, bits[i]);
-        let samples = sine::tone(step, p);
-        put(out, at + 32 * i, &samples);
-        p = next_phase(step, p);
-        i += 1;
+impl Transmitter {
+    // Puts the samples of bits, 0 or 1 each, from the place `at` on, and gives the state after them.
+    pub(crate) fn put_bits(self, out: &mut [i16], at: usize, bits: &[u8]) -> Transmitter
+        requires { at + 32 * length bits.now ≤ length out.old }
+        ensures next { result ≡ after_bits self bits.now }
+        ensures lent { out.new ≡ sets out.old at (samples_of self bits.now) }
+    {
+        let tones = tones::tones_of(self.band);
+        let mut phase = self.phase;
+        for (i, &bit) in bits.iter().enumerate() {
+            let step = step_of(tones, bit);
+            put(out, at + 32 * i, &sine::tone(step, phase));
+            phase = next_phase(step, phase);
+        }
+        Transmitter { phase, ..self }
     }
-    p
-}
 
-// Puts the samples of characters at the front of the buffer, and answers the phase after them.
-pub(crate) fn put_characters(out: &mut [i16], tones: Tones, phase: u16, bytes: &[u8]) -> u16
-    requires { 320 * length bytes.now ≤ length out.old }
-    ensures { (result ≡ phase_bits tones phase (characters_bits bytes.now))
-        × (out.new ≡ sets out.old 0 (send_bits tones phase (characters_bits bytes.now))) }
-{
-    let mut p = phase;
-    let mut i = 0;
-    while i < bytes.len() {
-        let bits = char_bits(bytes[i]);
-        p = put_bits(out, 320 * i, tones, p, &bits);
-        i += 1;
+    // Puts the samples of characters at the front of the buffer, and gives the state after them.
+    pub(crate) fn put_characters(self, out: &mut [i16], bytes: &[u8]) -> Transmitter
+        requires { 320 * length bytes.now ≤ length out.old }
+        ensures next { result ≡ after_bits self (characters_bits bytes.now) }
+        ensures lent { out.new ≡ sets out.old 0 (samples_of self (characters_bits bytes.now)) }
+    {
+        let mut next = self;
+        for (i, &byte) in bytes.iter().enumerate() {
+            next = next.put_bits(out, 320 * i, &char_bits(byte));
+        }
+        next
     }
-    p
 }
 
 // A character's ten bits: a start bit, the byte's bits from the least significant on, and a stop bit.

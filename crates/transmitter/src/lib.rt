@@ -3,14 +3,13 @@
 #![tactic(auto)]
 
 ghost use Rattle.std.specs.Prelude.{◌≡◌};
-ghost use Rattle.calls.specs.Refusals.{first_of};
-ghost use Rattle.calls.specs.Outcome.{outcome};
+ghost use Rattle.calls.specs.Refusals.{refusal_number, first_of};
+ghost use Rattle.calls.specs.Outcome.{as_answer, opened, outcome};
 ghost use Rattle.transmitter.specs.Calls.{open_of, in_range, idle_tests, idle_of, characters_tests, characters_of};
 
 mod bits;
 
-use crate::bits::{put_bits, put_characters};
-use calls::Answer;
+use calls::{Answered, Refusal};
 
 // The most bytes of one call.
 pub const MOST_CHARACTERS: usize = 100;
@@ -23,123 +22,93 @@ pub struct Transmitter {
     pub phase: u16,
 }
 
-// What an opening answers, in C too: 0 and the fresh state, or the number of a refusal and the fresh state of band 1.
-#[repr(C)]
-#[derive(Clone, Copy)]
-pub struct Opened {
-    pub number: u8,
-    pub transmitter: Transmitter,
-}
-
-// What a sending call answers: the next state, and the number with the count of samples.
-#[derive(Clone, Copy)]
-pub struct Sent {
-    pub transmitter: Transmitter,
-    pub answer: Answer,
-}
-
 impl Transmitter {
-    // The fresh state of a band: the specification's opening.
-    pub fn open(band: u8) -> Opened
-        ensures { result ≡ open_of band }
+    // The fresh state of a band, or that of band 1 beside a refusal: the specification's opening.
+    #[tactic(auto, unfolding(crate::specs::Calls::open_of))]
+    pub fn open(band: u8) -> Answered<Transmitter, ()>
+        ensures { opened result ≡ open_of band }
     {
         if tones::is_band(band) {
-            Opened {
-                number: 0,
-                transmitter: Transmitter { band, phase: 0 },
+            Answered {
+                state: Transmitter { band, phase: 0 },
+                answer: Ok(()),
             }
         } else {
-            Opened {
-                number: 1,
-                transmitter: Transmitter { band: 1, phase: 0 },
+            Answered {
+                state: Transmitter { band: 1, phase: 0 },
+                answer: Err(Refusal::UnknownBand),
             }
         }
     }
 
-    // Sends three mark bits: the leader or the trailer of a message.
-    pub fn idle(self, out: &mut [i16]) -> Sent
-        ensures { outcome result.answer result.transmitter out.new ≡ idle_of self out.old }
+    // Sends three mark bits: the leader or the trailer of a message. It answers the count of samples.
+    #[tactic(auto, using(crate::proofs::Rules::idle_sent, crate::proofs::Rules::idle_refused))]
+    pub fn idle(self, out: &mut [i16]) -> Answered<Transmitter, usize>
+        ensures { outcome (as_answer result.answer) result.state out.new ≡ idle_of self out.old }
     {
-        let number = self.idle_refusal(out.len());
-        if number != 0 {
-            return self.refused(number);
-        }
-        let band = self.band;
-        let tones = tones::tones_of(band);
-        let bits = [1u8; 3];
-        let phase = put_bits(out, 0, tones, self.phase, &bits);
-        Sent {
-            transmitter: Transmitter { band, phase },
-            answer: Answer {
-                number: 0,
-                count: 96,
+        match self.check_idle(out.len()) {
+            Ok(()) => Answered {
+                state: self.put_bits(out, 0, &[1; 3]),
+                answer: Ok(96),
+            },
+            Err(refusal) => Answered {
+                state: self,
+                answer: Err(refusal),
             },
         }
     }
 
-    // Sends bytes as characters.
-    pub fn characters(self, bytes: &[u8], out: &mut [i16]) -> Sent
-        ensures { outcome result.answer result.transmitter out.new
+    // Sends bytes as characters. It answers the count of samples.
+    #[tactic(auto, using(crate::proofs::Rules::characters_sent, crate::proofs::Rules::characters_refused))]
+    pub fn characters(self, bytes: &[u8], out: &mut [i16]) -> Answered<Transmitter, usize>
+        ensures { outcome (as_answer result.answer) result.state out.new
             ≡ characters_of self bytes.now out.old }
     {
-        let number = self.characters_refusal(bytes.len(), out.len());
-        if number != 0 {
-            return self.refused(number);
-        }
-        let band = self.band;
-        let tones = tones::tones_of(band);
-        let phase = put_characters(out, tones, self.phase, bytes);
-        Sent {
-            transmitter: Transmitter { band, phase },
-            answer: Answer {
-                number: 0,
-                count: 320 * bytes.len(),
+        match self.check_characters(bytes.len(), out.len()) {
+            Ok(()) => Answered {
+                state: self.put_characters(out, bytes),
+                answer: Ok(320 * bytes.len()),
+            },
+            Err(refusal) => Answered {
+                state: self,
+                answer: Err(refusal),
             },
         }
     }
 
-    // The number of the first reason to refuse an idle with so many places lent, or 0.
-    fn idle_refusal(self, places: usize) -> u8
-        ensures { result ≡ first_of (idle_tests self places) }
+    // The first reason to refuse an idle with so many places lent.
+    fn check_idle(self, places: usize) -> Result<(), Refusal>
+        ensures { refusal_number result ≡ first_of (idle_tests self places) }
     {
         if !self.in_range() {
-            2
+            Err(Refusal::StateOutOfRange)
         } else if places < 96 {
-            4
+            Err(Refusal::TooFewPlaces)
         } else {
-            0
+            Ok(())
         }
     }
 
     // The same for so many characters.
-    fn characters_refusal(self, characters: usize, places: usize) -> u8
-        ensures { result ≡ first_of (characters_tests self characters places) }
+    fn check_characters(self, characters: usize, places: usize) -> Result<(), Refusal>
+        ensures { refusal_number result ≡ first_of (characters_tests self characters places) }
     {
         if !self.in_range() {
-            2
+            Err(Refusal::StateOutOfRange)
         } else if MOST_CHARACTERS < characters {
-            3
+            Err(Refusal::TooMany)
         } else if places < 320 * characters {
-            4
+            Err(Refusal::TooFewPlaces)
         } else {
-            0
+            Ok(())
         }
     }
 
     // The state is in its ranges.
+    #[tactic(auto, unfolding(crate::specs::Calls::in_range))]
     fn in_range(self) -> bool
         ensures { result ≡ in_range self }
     {
         tones::is_band(self.band) && self.phase < 1920
-    }
-
-    // The state as handed, beside the number of a refusal.
-    fn refused(self, number: u8) -> Sent
-        ensures { result ≡ record { transmitter = self; answer = record { number = number; count = 0 } } }
-    {
-        Sent {
-            transmitter: self,
-            answer: Answer { number, count: 0 },
-        }
     }
 }

@@ -13,6 +13,7 @@ use Rattle.integers.specs.Near.{altered}
 use Rattle.integers.specs.Sums.{Bounded}
 use Rattle.integers.proofs.Near.{length-altered}
 use Rattle.integers.proofs.Lists.{sets-front}
+use Rattle.calls.specs.declared.Answer.{Answer}
 use Rattle.calls.specs.Refusals.{first_of}
 use Rattle.calls.specs.Outcome.{Outcome, outcome, accepted, over}
 use Rattle.calls.proofs.Answers.{given-count, given-front, given_part, given_room}
@@ -33,6 +34,10 @@ use Rattle.promise.proofs.Message.{are_bytes, message-range, message-read}
 use Rattle.loopback.specs.Loopback.{Lists, lists, recorded_of, differences_of, loopback_tests}
 use Rattle.loopback.proofs.Refusals.{Allowed, allowed, loopback_refused, loopback_accepted}
 use Rattle.loopback.proofs.loopback.Goals as goal
+
+-- what the message's call gives, told by the answer made of it
+as_sent : (now : List ℤ) {a b : Answer} {o : Outcome Unit (List ℤ)} → a ≡ b → outcome b tt now ≡ o → outcome a tt now ≡ o
+as_sent now e s = ap (λ (a : Answer). outcome a tt now) e ∙ s
 
 -- ---- nothing is refused
 module _ (band : ℕ) (cs : List ℕ) (ds : List ℤ) (size : ℕ) (lent : Lists) where
@@ -127,25 +132,25 @@ slice_bounds-disturb-end c =
     let a = c.args in
     let t : Taken a.band a.characters.now a.disturbance.now a.size (lists a.samples.now a.events.now a.differences.now) =
     record { none = sym c.refusal-number.ensures ∙ c.if-number-ne0.false; bytes = λ i. search rules } in
-    fits _ _ _ _ _ t (outcome c.send-sent.result tt c.send-sent.new.out) c.send-sent.ensures
+    fits _ _ _ _ _ t (outcome c.from-sent.result tt c.send.new.out) (as_sent c.send.new.out c.from-sent.ensures c.send.ensures)
 
 pub slice_bounds-disturb-end-2 : goal.slice_bounds-disturb-end-2
 slice_bounds-disturb-end-2 c =
     let a = c.args in
     let t : Taken a.band a.characters.now a.disturbance.now a.size (lists a.samples.now a.events.now a.differences.now) =
     record { none = sym c.refusal-number.ensures ∙ c.if-number-ne0.false; bytes = λ i. search rules } in
-    part _ _ _ _ _ t (outcome c.send-sent.result tt c.send-sent.new.out) c.send-sent.ensures
+    part _ _ _ _ _ t (outcome c.from-sent.result tt c.send.new.out) (as_sent c.send.new.out c.from-sent.ensures c.send.ensures)
 
 pub disturb-requires : goal.disturb-requires
 disturb-requires c =
     let a = c.args in
     let t : Taken a.band a.characters.now a.disturbance.now a.size (lists a.samples.now a.events.now a.differences.now) =
     record { none = sym c.refusal-number.ensures ∙ c.if-number-ne0.false; bytes = λ i. search rules } in
-    let sent : Outcome Unit (List ℤ) = outcome c.send-sent.result tt c.send-sent.new.out in
+    let sent : Outcome Unit (List ℤ) = outcome c.from-sent.result tt c.send.new.out in
     record {
-      bounded = bounded _ _ _ _ _ t sent c.send-sent.ensures;
+      bounded = bounded _ _ _ _ _ t sent (as_sent c.send.new.out c.from-sent.ensures c.send.ensures);
       bounded_2 = small _ _ _ _ _ t;
-      samples_in_bounds = numbered _ _ _ _ _ t sent c.send-sent.ensures;
+      samples_in_bounds = numbered _ _ _ _ _ t sent (as_sent c.send.new.out c.from-sent.ensures c.send.ensures);
     }
 
 pub slice_bounds-receive-end : goal.slice_bounds-receive-end
@@ -153,15 +158,15 @@ slice_bounds-receive-end c =
     let a = c.args in
     let t : Taken a.band a.characters.now a.disturbance.now a.size (lists a.samples.now a.events.now a.differences.now) =
     record { none = sym c.refusal-number.ensures ∙ c.if-number-ne0.false; bytes = λ i. search rules } in
-    fits-still _ _ _ _ _ t (outcome c.send-sent.result tt c.send-sent.new.out) c.send-sent.ensures _ c.disturb.ensures
+    fits-still _ _ _ _ _ t (outcome c.from-sent.result tt c.send.new.out) (as_sent c.send.new.out c.from-sent.ensures c.send.ensures) _ c.disturb.ensures
 
 pub slice_bounds-receive-end-2 : goal.slice_bounds-receive-end-2
 slice_bounds-receive-end-2 c =
     let a = c.args in
     let t : Taken a.band a.characters.now a.disturbance.now a.size (lists a.samples.now a.events.now a.differences.now) =
     record { none = sym c.refusal-number.ensures ∙ c.if-number-ne0.false; bytes = λ i. search rules } in
-    let sent : Outcome Unit (List ℤ) = outcome c.send-sent.result tt c.send-sent.new.out in
-    sym (ap length (read-part _ _ _ _ _ t sent c.send-sent.ensures _ c.disturb.ensures) ∙ long _ _ _ _ _ t sent c.send-sent.ensures)
+    let sent : Outcome Unit (List ℤ) = outcome c.from-sent.result tt c.send.new.out in
+    sym (ap length (read-part _ _ _ _ _ t sent (as_sent c.send.new.out c.from-sent.ensures c.send.ensures) _ c.disturb.ensures) ∙ long _ _ _ _ _ t sent (as_sent c.send.new.out c.from-sent.ensures c.send.ensures))
 
 pub receive-count-requires : goal.receive-count-requires
 receive-count-requires c =
@@ -169,7 +174,7 @@ receive-count-requires c =
     let t : Taken a.band a.characters.now a.disturbance.now a.size (lists a.samples.now a.events.now a.differences.now) =
     record { none = sym c.refusal-number.ensures ∙ c.if-number-ne0.false; bytes = λ i. search rules } in
     let b = all-allowed _ _ _ _ _ t in
-    let part = read-part _ _ _ _ _ t (outcome c.send-sent.result tt c.send-sent.new.out) c.send-sent.ensures _ c.disturb.ensures in
+    let part = read-part _ _ _ _ _ t (outcome c.from-sent.result tt c.send.new.out) (as_sent c.send.new.out c.from-sent.ensures c.send.ensures) _ c.disturb.ensures in
     let places = ap (λ (xs : List ℤ). length (measured_after (fresh a.band) xs)) part ∙ many _ _ _ _ _ t in
     record {
       band_value = b.known;
@@ -184,12 +189,12 @@ returns c =
     let a = c.args in
     let t : Taken a.band a.characters.now a.disturbance.now a.size (lists a.samples.now a.events.now a.differences.now) =
     record { none = sym c.refusal-number.ensures ∙ c.if-number-ne0.false; bytes = λ i. search rules } in
-    let sent : Outcome Unit (List ℤ) = outcome c.send-sent.result tt c.send-sent.new.out in
+    let sent : Outcome Unit (List ℤ) = outcome c.from-sent.result tt c.send.new.out in
     let b = all-allowed _ _ _ _ _ t in
     let p = c.receive-count.ensures in
     let recording = recorded_of a.band a.characters.now a.disturbance.now in
     let told = measured_after (fresh a.band) recording in
-    let read = ap (measured_after (fresh a.band)) (read-part _ _ _ _ _ t sent c.send-sent.ensures _ c.disturb.ensures) in
+    let read = ap (measured_after (fresh a.band)) (read-part _ _ _ _ _ t sent (as_sent c.send.new.out c.from-sent.ensures c.send.ensures) _ c.disturb.ensures) in
     let count = p.count ∙ ap length read ∙ many _ _ _ _ _ t in
     let events =
     p.told ∙ ap (λ (l : List (ℕ × ℤ)). sets a.events.now 0 (numbers_of l)) read
@@ -198,6 +203,6 @@ returns c =
     p.beside ∙ ap (λ (l : List (ℕ × ℤ)). sets a.differences.now 0 (map (λ (x : ℕ × ℤ). x.1) l)) read
     ∙ sets-front (differences_of a.band a.characters.now a.disturbance.now) a.differences.now
     (omega (arith, length-map told (λ (x : ℕ × ℤ). x.1), many _ _ _ _ _ t, b.room.beside)) in
-    let full = filled _ _ _ _ _ t sent c.send-sent.ensures _ c.disturb.ensures in
+    let full = filled _ _ _ _ _ t sent (as_sent c.send.new.out c.from-sent.ensures c.send.ensures) _ c.disturb.ensures in
     (λ i. record { number = 0; count = count i; state = tt; lent = lists (full i) (events i) (differences i) })
     ∙ loopback_accepted a.band a.characters.now a.disturbance.now a.size (lists a.samples.now a.events.now a.differences.now) t.none
