@@ -8,7 +8,6 @@ use borrow.Rule.Slice.PartMut.{put_mid}
 use lib.IntN.{ℤ}
 use lib.ListN.{length}
 use lib.Seq.{sets, length-sets}
-use Rattle.std.proofs.lemmas.Result.{err_from_is_err_and}
 use Rattle.calls.specs.declared.Answer.{Answer}
 use Rattle.calls.specs.Refusals.{first_of}
 use Rattle.calls.specs.Outcome.{Opening, outcome}
@@ -18,7 +17,7 @@ use Rattle.transmitter.specs.Calls.{open_of, fresh, samples_of, idle_of, charact
 use Rattle.transmitter.proofs.Rules.{open_band, fresh_kept, idle_0, characters_0}
 use Rattle.message.specs.Message.{message_of, message_tests}
 use Rattle.message.proofs.Parts.{part, part_room, Put, put_whole, put_part, characters-count, begun, ended, begun_kept, ended_kept, parts-message}
-use Rattle.message.proofs.Calls.{Sendable, sendable, send_refused, send_accepted}
+use Rattle.message.proofs.Calls.{Sendable, sendable, send_accepted}
 use Rattle.message.proofs.send.Goals as goal
 
 module _ (band : ℕ) (bytes : List ℕ) (lent : List ℤ) (none : 0 ≡ first_of (message_tests band (length bytes) (length lent))) where
