@@ -1,73 +1,70 @@
 // The lines of events, put into a buffer.
-ghost use Rattle.std.specs.Prelude.{◌≡◌, true, ◌+◌, ◌≤◌, length};
-ghost use Rattle.std.proofs.lemmas.List.Edits.{sets};
+ghost use Rattle.std.specs.Prelude.{◌≡◌, true, ◌≤◌, ◌<◌, length};
 ghost use Rattle.calls.specs.Outcome.{over};
 ghost use Rattle.receiver.specs.Calls.{most_events};
-ghost use Rattle.demodulator.specs.Lines.{most_printed, has_kind, HaveKinds, fields_of, event_line, events_text};
+ghost use Rattle.demodulator.specs.Lines.{most_printed, has_kind, HaveKinds, kind_of, value_of, event_line, events_text};
+
+use arrayvec::ArrayVec;
 
 // The names line and a line for each event over the buffer's front, and their length.
+#[tactic(auto, using(crate::proofs::Printed::by_lines))]
 pub(crate) fn put_events(out: &mut [u8], events: &[u16]) -> usize
-    requires events_len_bound { length events.now ≤ most_events }
+    requires few { length events.now ≤ most_events }
     requires have_kinds { HaveKinds events.now }
-    requires most_printed_in_bounds { most_printed ≤ length out.old }
+    requires room { most_printed ≤ length out.old }
     ensures count { result ≡ length (events_text events.now) }
     ensures lent { out.new ≡ over (events_text events.now) out.old }
 {
-    calls::put(out, 0, b"number kind value\n");
-    let mut at: usize = 18;
-    let mut place: usize = 0;
-    while place < events.len() {
-        at = put_event(out, at, place as u16, events[place]);
-        place += 1;
+    let names = b"number kind value\n";
+    calls::put(out, 0, names);
+    let mut at = names.len();
+    for (place, &event) in events.iter().enumerate() {
+        let line = event_line(place as u16, event);
+        calls::put(out, at, &line);
+        at += line.len();
     }
     at
 }
 
-// Puts an event's line from the place `at` on, and gives the place behind it.
-fn put_event(out: &mut [u8], at: usize, place: u16, event: u16) -> usize
-    requires event_value { has_kind event ≡ true }
-    requires event_bound { at + length (event_line place event) ≤ most_printed }
-    ensures place { result ≡ at + length (event_line place event) }
-    ensures lent { out.new ≡ sets out.old at (event_line place event) }
+// An event's place, kind and value.
+#[tactic(auto, using(crate::proofs::Printed::by_parts), unfolding(crate::specs::Lines::event_line))]
+fn event_line(place: u16, event: u16) -> ArrayVec<u8, 14>
+    requires place { place < 1000 }
+    requires kind { has_kind event ≡ true }
+    ensures { result.items ≡ event_line place event }
 {
-    let len = text::put_decimal(out, at, place);
-    put_fields(out, at + len, event)
+    let digits = digits::decimal(place);
+    let value = value_of(event);
+    let mut line = ArrayVec::new();
+    line.try_extend_from_slice(&digits).unwrap();
+    line.push(b' ');
+    line.try_extend_from_slice(kind_of(event)).unwrap();
+    line.push(b' ');
+    line.try_extend_from_slice(&value).unwrap();
+    line.push(b'\n');
+    line
 }
 
-// Its kind and value likewise.
-fn put_fields(out: &mut [u8], at: usize, event: u16) -> usize
-    requires event_value { has_kind event ≡ true }
-    requires event_bound { at + length (fields_of event) ≤ most_printed }
-    ensures place { result ≡ at + length (fields_of event) }
-    ensures lent { out.new ≡ sets out.old at (fields_of event) }
+// The name of its kind.
+fn kind_of(event: u16) -> &'static [u8]
+    requires { has_kind event ≡ true }
+    ensures { result.now ≡ kind_of event }
 {
-    if event < 256 {
-        let fields = char_fields(event as u8);
-        calls::put(out, at, &fields);
-        return at + 9;
+    match event {
+        0..=255 => b"char",
+        256 => b"nostop",
+        257 => b"lost",
+        258 => b"break",
+        _ => b"doubt",
     }
-    if event == 256 {
-        calls::put(out, at, b" nostop --\n");
-        return at + 11;
-    }
-    if event == 257 {
-        calls::put(out, at, b" lost --\n");
-        return at + 9;
-    }
-    if event == 258 {
-        calls::put(out, at, b" break --\n");
-        return at + 10;
-    }
-    calls::put(out, at, b" doubt --\n");
-    at + 10
 }
 
-// The kind and value of a character.
-fn char_fields(byte: u8) -> [u8; 9]
-    ensures { result ≡ fields_of byte }
+// A character as two hexadecimal digits, and two dashes for the other kinds.
+fn value_of(event: u16) -> [u8; 2]
+    ensures { result ≡ value_of event }
 {
-    let value = digits::hexadecimal(byte);
-    let high = value[0];
-    let low = value[1];
-    [b' ', b'c', b'h', b'a', b'r', b' ', high, low, b'\n']
+    match u8::try_from(event) {
+        Ok(byte) => digits::hexadecimal(byte),
+        Err(_) => [b'-', b'-'],
+    }
 }

@@ -1,12 +1,14 @@
--- `demodulator::lines::put_events` meets its contract: each turn puts one line.
+-- `demodulator::lines::put_events` meets its contract: the lines of the events so far are put.
 -- Assumes nothing.
-use Prim.Native.Nat.{◌-◌, ◌≤◌}
+use mathlib.Core.Path.{◌≡◌}
 use lib.ListN.{length}
-use Rattle.demodulator.proofs.Printed.{Printed}
+use lib.Seq.{sets}
+use Rattle.demodulator.proofs.Printed.{text_before}
 use Rattle.demodulator.proofs.lines.put_events.Given as goal
 
 abbrev pub invariant-loop-place : goal.invariant-loop-place
-invariant-loop-place l = (l.place ≤ length l.events) × Printed l.initial.out l.events l.out l.at l.place
-
-abbrev pub decreases-loop-place : goal.decreases-loop-place
-decreases-loop-place l = length l.events - l.place
+invariant-loop-place l =
+    record {
+      counted : l.at ≡ length (text_before l.events l.place);
+      filled : l.out ≡ sets l.fn.out 0 (text_before l.events l.place);
+    }
