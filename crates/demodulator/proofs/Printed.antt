@@ -1,36 +1,24 @@
--- The lines that are printed: each case of a line in the parts in which it is put, lengths, and a list of lines that is put one by one.
+-- The lines that are printed: their lengths, and a list of lines that is put one by one.
 -- Assumes nothing.
 use mathlib.Core.Path.{◌≡◌, refl, sym, ap, ◌∙◌}
 use mathlib.Core.List.{List, [], ◌∷◌, ◌++◌, append-nil, append_assoc}
 use Prim.Native.Nat.{ℕ, suc, ◌+◌, ◌*◌, ◌<◌, ◌≤◌, zero-le}
-use native.Mathlib.Numerals.{add-one}
+use native.Mathlib.Nat.{zero-add, add-zero}
 use native.Mathlib.Omega.{arith}
-use borrow.Author.Tests.{lt-ltb}
 use lib.Dec.{ltb}
-use native.Mathlib.Nat.{add-zero}
 use lib.ListN.{length, get_or, take, length-append, length-take}
-use lib.Seq.{sets, drop-cons}
+use lib.Seq.{sets}
 use Rattle.std.proofs.lemmas.List.{take_more}
-use Rattle.integers.specs.All.{All, none, more}
 pub use Rattle.integers.proofs.All.{all_at}
 use Rattle.integers.proofs.Tests.{cond_case}
-pub use Rattle.integers.proofs.Lists.{sets_append, sets-front}
-use Rattle.calls.specs.Outcome.{over}
-use Rattle.calls.proofs.Filling.{Filling, filling_start, filling_more, filling_end}
-use Rattle.digits.specs.Numbers.{decimal, hexadecimal}
+use Rattle.integers.proofs.Lists.{sets_append}
+use Rattle.digits.specs.Numbers.{decimal}
 use Rattle.digits.proofs.Numbers.{length-decimal, length-hexadecimal}
 use Rattle.receiver.specs.Calls.{most_events}
-use Rattle.demodulator.specs.Lines.{Kind, kinds, is_of, name_in, kind_of, value_of, fields_of, event_line, event_lines, names_line, events_text, most_printed}
-use Rattle.demodulator.proofs.Rows.{char_row}
+use Rattle.demodulator.specs.Lines.{kind_of, value_of, fields_of, event_line, event_lines, names_line, events_text, most_printed}
+pub use Rattle.demodulator.proofs.Rows.{length-kind}
 
 -- ---- lengths
-
-length-name : (ks : List Kind) (event : ℕ) → All (λ k. length k.name ≤ 6) ks → length (name_in ks event) ≤ 6
-length-name [] event none = zero-le
-length-name (k ∷ ks) event (more h hs) = cond_case (λ (l : List ℕ). length l ≤ 6) (is_of k event) _ _ h (length-name ks event hs)
-
-pub length-kind : (event : ℕ) → length (kind_of event) ≤ 6
-length-kind event = length-name kinds event (more (omega arith) (more (omega arith) (more (omega arith) (more (omega arith) (more (omega arith) none)))))
 
 pub length_value : (event : ℕ) → length (value_of event) ≡ 2
 length_value event = cond_case (λ (l : List ℕ). length l ≡ 2) (ltb event 256) _ _ (length-hexadecimal event) refl
@@ -69,10 +57,6 @@ pub ruleset by_parts = (few_digits, length-kind, length_value)
 
 -- ---- lines that are put one by one
 
-pub text-most : (events : List ℕ) → length events ≤ most_events → length (events_text events) ≤ most_printed
-unfolding events_text
-text-most events few = omega (arith, length-append names_line (event_lines 0 events), length-lines 0 events (omega arith))
-
 -- one more line
 lines_append : (place n : ℕ) (events : List ℕ) (event : ℕ) → n ≡ place + length events
     → event_lines place (events ++ (event ∷ [])) ≡ event_lines place events ++ event_line n event
@@ -87,9 +71,6 @@ module _ (events : List ℕ) (place : ℕ) where
   abbrev pub text_before : List ℕ
   text_before = events_text (take place events)
 
-  pub before-most : length events ≤ most_events → length text_before ≤ most_printed
-  before-most few = text-most (take place events) (omega (arith, length-take place events))
-
   pub before_more : place < length events
       → events_text (take (place + 1) events) ≡ text_before ++ event_line place (get_or events place 0)
   unfolding events_text
@@ -98,9 +79,25 @@ module _ (events : List ℕ) (place : ℕ) where
       ∙ ap (λ (l : List ℕ). names_line ++ l)
       (lines_append 0 place (take place events) (get_or events place 0) (omega (arith, length-take place events)))
 
+  pub put_more : (lent : List ℕ) → place < length events
+      → sets (sets lent 0 text_before) (length text_before) (event_line place (get_or events place 0))
+      ≡ sets lent 0 (events_text (take (place + 1) events))
+  put_more lent h =
+      let line = event_line place (get_or events place 0) in
+      ap (λ (k : ℕ). sets (sets lent 0 text_before) k line) (sym (zero-add (length text_before)))
+      ∙ sym (ap (sets lent 0) (before_more h) ∙ sets_append lent 0 text_before line)
+
 pub before_none : (events : List ℕ) → text_before events 0 ≡ names_line
 unfolding events_text event_lines
 before_none events = refl
 
--- for the search of the check: lines that are put behind others, and all of them
-pub ruleset by_lines = (before_none, before_more, before-most, text-most, all_at, sets_append, sets-front)
+-- all of them, and so those before a place, have room
+pub text-most : (events : List ℕ) → length events ≤ most_events → length (events_text events) ≤ most_printed
+unfolding events_text
+text-most events few = omega (arith, length-append names_line (event_lines 0 events), length-lines 0 events (omega arith))
+
+pub before-most : (events : List ℕ) (place : ℕ) → length events ≤ most_events → length (text_before events place) ≤ most_printed
+before-most events place few = text-most (take place events) (omega (arith, length-take place events))
+
+-- for the search of the check: how long they are, and that each event is known
+pub ruleset by_lines = (before-most, text-most, all_at)

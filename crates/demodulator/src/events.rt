@@ -12,10 +12,10 @@ use receiver::Receiver;
 
 // The lines of the samples' events over the buffer's front, and their length.
 pub(crate) fn put_events_of(band: u8, samples: &[i16], out: &mut [u8]) -> usize
-    requires band_value { is_band band ≡ true }
-    requires samples_len_bound { length samples.now ≤ most_samples }
-    requires samples_value { are_samples samples.now ≡ true }
-    requires most_printed_in_bounds { most_printed ≤ length out.old }
+    requires band { is_band band ≡ true }
+    requires few { length samples.now ≤ most_samples }
+    requires sound { are_samples samples.now ≡ true }
+    requires room { most_printed ≤ length out.old }
     ensures count { result ≡ length (events_text (events_after (fresh band) samples.now)) }
     ensures lent { out.new ≡ over (events_text (events_after (fresh band) samples.now)) out.old }
 {

@@ -1,16 +1,19 @@
 // The lines of events, put into a buffer.
 ghost use Rattle.std.specs.Prelude.{◌≡◌, true, ◌≤◌, ◌<◌, length};
+ghost use Rattle.integers.specs.All.{All};
 ghost use Rattle.calls.specs.Outcome.{over};
+ghost use Rattle.control.specs.Rules.{is_event, event_number};
 ghost use Rattle.receiver.specs.Calls.{most_events};
-ghost use Rattle.demodulator.specs.Lines.{most_printed, has_kind, HaveKinds, kind_of, value_of, event_line, events_text};
+ghost use Rattle.demodulator.specs.Lines.{most_printed, kind_of, value_of, event_line, events_text};
 
 use arrayvec::ArrayVec;
+use control::Event;
 
-// The names line and a line for each event over the buffer's front, and their length.
+// The names line and a line for each event, given by its number, over the buffer's front, and their length.
 #[tactic(auto, using(crate::proofs::Printed::by_lines))]
 pub(crate) fn put_events(out: &mut [u8], events: &[u16]) -> usize
     requires few { length events.now ≤ most_events }
-    requires have_kinds { HaveKinds events.now }
+    requires known { All (λ event. is_event event ≡ true) events.now }
     requires room { most_printed ≤ length out.old }
     ensures count { result ≡ length (events_text events.now) }
     ensures lent { out.new ≡ over (events_text events.now) out.old }
@@ -19,7 +22,7 @@ pub(crate) fn put_events(out: &mut [u8], events: &[u16]) -> usize
     calls::put(out, 0, names);
     let mut at = names.len();
     for (place, &event) in events.iter().enumerate() {
-        let line = event_line(place as u16, event);
+        let line = event_line(place as u16, Event::try_from(event).unwrap());
         calls::put(out, at, &line);
         at += line.len();
     }
@@ -28,10 +31,9 @@ pub(crate) fn put_events(out: &mut [u8], events: &[u16]) -> usize
 
 // An event's place, kind and value.
 #[tactic(auto, using(crate::proofs::Printed::by_parts), unfolding(crate::specs::Lines::event_line))]
-fn event_line(place: u16, event: u16) -> ArrayVec<u8, 14>
-    requires place { place < 1000 }
-    requires kind { has_kind event ≡ true }
-    ensures { result.items ≡ event_line place event }
+fn event_line(place: u16, event: Event) -> ArrayVec<u8, 14>
+    requires { place < 1000 }
+    ensures { result.items ≡ event_line place (event_number event) }
 {
     let digits = digits::decimal(place);
     let value = value_of(event);
@@ -46,25 +48,24 @@ fn event_line(place: u16, event: u16) -> ArrayVec<u8, 14>
 }
 
 // The name of its kind.
-fn kind_of(event: u16) -> &'static [u8]
-    requires { has_kind event ≡ true }
-    ensures { result.now ≡ kind_of event }
+fn kind_of(event: Event) -> &'static [u8]
+    ensures { result.now ≡ kind_of (event_number event) }
 {
     match event {
-        0..=255 => b"char",
-        256 => b"nostop",
-        257 => b"lost",
-        258 => b"break",
-        _ => b"doubt",
+        Event::Character(_) => b"char",
+        Event::NoStop => b"nostop",
+        Event::CarrierLost => b"lost",
+        Event::Break => b"break",
+        Event::DoubtfulBit => b"doubt",
     }
 }
 
 // A character as two hexadecimal digits, and two dashes for the other kinds.
-fn value_of(event: u16) -> [u8; 2]
-    ensures { result ≡ value_of event }
+fn value_of(event: Event) -> [u8; 2]
+    ensures { result ≡ value_of (event_number event) }
 {
-    match u8::try_from(event) {
-        Ok(byte) => digits::hexadecimal(byte),
-        Err(_) => [b'-', b'-'],
+    match event {
+        Event::Character(byte) => digits::hexadecimal(byte),
+        _ => [b'-', b'-'],
     }
 }

@@ -78,7 +78,7 @@ put_events_of-requires c =
     let a = all t _ r refl in
     let l : length c.args.out.now ≡ most_printed = search rules in
     rw (band_read t _ r refl, front t _ r refl)
-    (record { band_value = a.band; samples_len_bound = a.few; samples_value = a.sound; most_printed_in_bounds = omega (arith, l) })
+    (record { band = a.band; few = a.few; sound = a.sound; room = omega (arith, l) })
 
 pub returns-in-Ok : goal.returns-in-Ok
 returns-in-Ok c =

@@ -8,18 +8,20 @@ use native.Mathlib.Omega.{arith}
 use borrow.Author.Rules.{rules}
 use lib.IntN.{ℤ, pos}
 use lib.ListN.{length, replicate, take}
+use Rattle.integers.specs.All.{All}
 use Rattle.calls.specs.Outcome.{Outcome, accepted, over}
 use Rattle.calls.proofs.Answers.{given-front, given_part, given_room}
 use Rattle.tones.specs.Bands.{is_band}
 use Rattle.tones.specs.Samples.{most_samples, are_samples}
+use Rattle.control.specs.Rules.{is_event}
 use Rattle.receiver.specs.declared.Receiver.{Receiver}
 use Rattle.receiver.specs.declared.Opened.{Opened}
 use Rattle.receiver.specs.Step.{state_after, events_after}
 use Rattle.receiver.specs.Calls.{fresh, most_events, open_of, block_of}
 use Rattle.receiver.proofs.Ranges.{open_band, fresh_kept}
+use Rattle.receiver.proofs.Events.{events-known}
 use Rattle.receiver.proofs.Calls.{block_0, numbers_alone, read-numbers}
-use Rattle.demodulator.specs.Lines.{HaveKinds, events_text}
-use Rattle.demodulator.proofs.Rows.{reported-kinds}
+use Rattle.demodulator.specs.Lines.{events_text}
 use Rattle.demodulator.proofs.events.put_events_of.Goals as goal
 
 abbrev places : List ℕ
@@ -59,37 +61,37 @@ pub slice_bounds-events-end : goal.slice_bounds-events-end
 slice_bounds-events-end c =
     let q = c.requires in
     let a = c.args in
-    room a.band q.band_value a.samples.now q.samples_len_bound q.samples_value _
-    (given a.band q.band_value a.samples.now q.samples_len_bound q.samples_value _ c.open-opened.ensures _ c.block-reading.ensures)
+    room a.band q.band a.samples.now q.few q.sound _
+    (given a.band q.band a.samples.now q.few q.sound _ c.open-opened.ensures _ c.block-reading.ensures)
 
 pub slice_bounds-put_events-end : goal.slice_bounds-put_events-end
 slice_bounds-put_events-end c =
     let q = c.requires in
     let a = c.args in
-    part a.band q.band_value a.samples.now q.samples_len_bound q.samples_value _
-    (given a.band q.band_value a.samples.now q.samples_len_bound q.samples_value _ c.open-opened.ensures _ c.block-reading.ensures)
+    part a.band q.band a.samples.now q.few q.sound _
+    (given a.band q.band a.samples.now q.few q.sound _ c.open-opened.ensures _ c.block-reading.ensures)
 
 pub put_events-requires : goal.put_events-requires
 put_events-requires c =
     let q = c.requires in
     let a = c.args in
-    let g = given a.band q.band_value a.samples.now q.samples_len_bound q.samples_value _ c.open-opened.ensures _ c.block-reading.ensures in
-    let f = front a.band q.band_value a.samples.now q.samples_len_bound q.samples_value _ g in
-    let r = room a.band q.band_value a.samples.now q.samples_len_bound q.samples_value _ g in
-    let p = part a.band q.band_value a.samples.now q.samples_len_bound q.samples_value _ g in
+    let g = given a.band q.band a.samples.now q.few q.sound _ c.open-opened.ensures _ c.block-reading.ensures in
+    let f = front a.band q.band a.samples.now q.few q.sound _ g in
+    let r = room a.band q.band a.samples.now q.few q.sound _ g in
+    let p = part a.band q.band a.samples.now q.few q.sound _ g in
     let l : length c.block-reading.new.events ≡ most_events = search rules in
     record {
-      events_len_bound = omega (arith, l, r, p);
-      have_kinds = subst HaveKinds (sym f) (reported-kinds (fresh a.band) a.samples.now (fresh_kept a.band q.band_value));
-      most_printed_in_bounds = q.most_printed_in_bounds;
+      few = omega (arith, l, r, p);
+      known = subst (All (λ event. is_event event ≡ true)) (sym f) (events-known (fresh a.band) a.samples.now (fresh_kept a.band q.band));
+      room = q.room;
     }
 
 pub returns : goal.returns
 returns c =
     let q = c.requires in
     let a = c.args in
-    let g = given a.band q.band_value a.samples.now q.samples_len_bound q.samples_value _ c.open-opened.ensures _ c.block-reading.ensures in
-    let e = ap events_text (front a.band q.band_value a.samples.now q.samples_len_bound q.samples_value _ g) in
+    let g = given a.band q.band a.samples.now q.few q.sound _ c.open-opened.ensures _ c.block-reading.ensures in
+    let e = ap events_text (front a.band q.band a.samples.now q.few q.sound _ g) in
     let p = c.put_events.ensures in
     record {
       count = p.count ∙ ap length e;

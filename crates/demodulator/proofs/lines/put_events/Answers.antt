@@ -1,15 +1,15 @@
 -- `demodulator::lines::put_events` meets its contract: each turn puts one line.
 -- Assumes nothing.
-use mathlib.Core.Path.{◌≡◌, sym, ap, ap₂, ◌∙◌}
+use mathlib.Core.Path.{◌≡◌, sym, ap, ap₂, ◌∙◌, subst}
 use mathlib.Core.List.{List}
 use Prim.Native.Nat.{ℕ}
-use native.Mathlib.Nat.{zero-add}
 use native.Mathlib.Omega.{arith}
 use lib.ListN.{length, get_or, length-append}
 use lib.Seq.{sets, take_all}
-use Rattle.integers.proofs.Lists.{sets_append, sets-front}
+use Rattle.integers.proofs.Lists.{sets-front}
+use Rattle.control.specs.Rules.{event_number, HasNumber}
 use Rattle.demodulator.specs.Lines.{event_line, events_text}
-use Rattle.demodulator.proofs.Printed.{text_before, text-most, before_none, before_more}
+use Rattle.demodulator.proofs.Printed.{text_before, text-most, before_none, before_more, put_more}
 use Rattle.demodulator.proofs.lines.put_events.Goals as goal
 
 pub loop-place-init : goal.loop-place-init
@@ -21,15 +21,18 @@ pub loop-place-preserved : goal.loop-place-preserved
 loop-place-preserved c =
     let l = c.loop-place in
     let events = c.args.events.now in
-    let before = text_before events l.place in
+    let number : event_number c.unwrap.result ≡ get_or events l.place 0 =
+    subst (HasNumber (get_or events l.place 0)) c.unwrap.ensures c.try_from.ensures in
+    let put = c.event_line-line.ensures ∙ ap (event_line l.place) number in
     let line = event_line l.place (get_or events l.place 0) in
-    let more = before_more events l.place (omega arith) in
-    let behind = sets_append c.args.out.now 0 before line in
-    let first = zero-add (length before) in
-    let put = c.event_line-line.ensures in
+    let more = before_more events l.place c.loop-place-test.true in
     record {
-      counted = omega (arith, ap length more, length-append before line, ap length put);
-      filled = cc;
+      counted = omega (arith, ap length more, length-append (text_before events l.place) line, ap length put);
+      filled =
+          c.put-in-loop-place.ensures
+          ∙ ap₂ (sets l.out) l.invariant.counted (c.deref.ensures.0 ∙ put)
+          ∙ ap (λ (lent : List ℕ). sets lent (length (text_before events l.place)) line) l.invariant.filled
+          ∙ put_more events l.place c.args.out.now c.loop-place-test.true;
     }
 
 pub returns-clause-lent : goal.returns-clause-lent
