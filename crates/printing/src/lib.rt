@@ -7,7 +7,8 @@ ghost use Rattle.printing.specs.Printing.{refusal_lines};
 
 use arrayvec::ArrayVec;
 
-// Puts the lines at the buffer's front, and gives their length, with the bytes for which there is no place.
+// Puts the lines at the buffer's front, and gives their length, with the bytes for which there is no place. It takes a number, not a
+// `Refusal`, since its contract holds for every number.
 pub fn put_refusal(out: &mut [u8], number: u8) -> usize
     ensures count { result ≡ length (refusal_lines number) }
     ensures lent { out.new ≡ sets out.old 0 (refusal_lines number) }
