@@ -7,7 +7,7 @@ use mathlib.Mathlib.Data.Bool.Basic.{and_elim_left, and_elim_right}
 use Prim.Native.Nat.{ℕ, suc, ◌+◌, ◌<◌, ◌≤◌}
 use native.Mathlib.Omega.{arith}
 use lib.IntN.{ℤ, pos}
-use lib.ListN.{length, take, drop, replicate, length-map, length-replicate}
+use lib.ListN.{length, take, drop, length-map}
 use lib.Seq.{sets, take-append_seam}
 use Rattle.integers.specs.All.{All, none, more}
 use Rattle.integers.proofs.Lists.{sets-front}
@@ -47,14 +47,12 @@ pub small : (ns : List ℕ) → All (λ n. is_event n ≡ true) ns → All (λ n
 small [] none = none
 small (n ∷ ns) (more e es) = more (below n e) (small ns es)
 
+-- put together from their three sides, they are what they were, with their band
+listed_all : (band : ℕ) (es : List ((ℕ × ℤ) × ℕ)) → listed band (numbers_of (values es)) (differences_of (values es)) (indices es) ≡ banded band es
+listed_all band [] = refl
+listed_all band (e ∷ es) = ap (λ (l : List ((ℕ × ℤ) × ℕ)). (measured_in band e.0, e.1) ∷ l) (listed_all band es)
+
 -- ---- one receiver, which has as many places as a block can need
-
--- the lists that it is lent
-abbrev pub own : EventLists × List ℕ
-own = ((replicate calls.most_events 0, replicate calls.most_events (pos 0)), replicate calls.most_events 0)
-
-enough : shortest own ≡ calls.most_events
-enough = omega (arith, length-replicate {A = ℕ} calls.most_events 0, length-replicate {A = ℤ} calls.most_events (pos 0))
 
 abbrev pub Given : Type 0
 Given = Outcome Receiver (EventLists × List ℕ)
@@ -69,24 +67,30 @@ differences o = take o.count o.lent.0.1
 abbrev pub told : Given → List ℕ
 told o = take o.count o.lent.1
 
-module _ (s : Receiver) (xs : List ℤ) (o : Given) (e : o ≡ calls.indexed_of s xs own) where
+-- it read the block xs, and was lent lists with as many places as a block can need
+pub record IsHeard (s : Receiver) (xs : List ℤ) (o : Given) : Type 0 where
+  pub own : EventLists × List ℕ
+  pub enough : shortest own ≡ calls.most_events
+  pub read : o ≡ calls.indexed_of s xs own
+
+module _ {s : Receiver} {xs : List ℤ} {o : Given} (h : IsHeard s xs o) where
   pub read_number : o.number ≡ first_of (calls.block_tests s xs calls.most_events)
   read_number =
-      ap (λ (p : Given). p.number) e
-      ∙ indexed-number s (record { samples = xs; lent = own.0; indices = own.1 })
-      ∙ ap (λ (n : ℕ). first_of (calls.block_tests s xs n)) enough
+      ap (λ (p : Given). p.number) h.read
+      ∙ indexed-number s (record { samples = xs; lent = h.own.0; indices = h.own.1 })
+      ∙ ap (λ (n : ℕ). first_of (calls.block_tests s xs n)) h.enough
 
   module _ (k : Readable s xs calls.most_events) where
     abbrev all : List ((ℕ × ℤ) × ℕ)
     all = receiver.indexed_after s xs
 
-    whole : o ≡ indexed s xs own
+    whole : o ≡ indexed s xs h.own
     unfolding calls.indexed_of
     whole =
-        e
-        ∙ not-refused (calls.block_tests s xs (shortest own)) s own (indexed s xs own)
-        (tests_0 (calls.in_range s) xs (calls.places_for (length xs)) (shortest own)
-        (record { ranged = k.ranged; few = k.few; sound = k.sound; room = omega (arith, k.room, enough) }))
+        h.read
+        ∙ not-refused (calls.block_tests s xs (shortest h.own)) s h.own (indexed s xs h.own)
+        (tests_0 (calls.in_range s) xs (calls.places_for (length xs)) (shortest h.own)
+        (record { ranged = k.ranged; few = k.few; sound = k.sound; room = omega (arith, k.room, h.enough) }))
 
     pub read_count : o.count ≡ length all
     read_count = ap (λ (p : Given). p.count) whole
@@ -111,40 +115,29 @@ module _ (s : Receiver) (xs : List ℤ) (o : Given) (e : o ≡ calls.indexed_of 
     indices-long = length-map all (λ (p : (ℕ × ℤ) × ℕ). p.1)
 
     read-numbers : numbers o ≡ numbers_of (values all)
-    read-numbers = front (numbers_of (values all)) own.0.0 numbers-long (ap (λ (p : Given). p.lent.0.0) whole)
+    read-numbers = front (numbers_of (values all)) h.own.0.0 numbers-long (ap (λ (p : Given). p.lent.0.0) whole)
 
     read-differences : differences o ≡ differences_of (values all)
-    read-differences = front (differences_of (values all)) own.0.1 differences-long (ap (λ (p : Given). p.lent.0.1) whole)
+    read-differences = front (differences_of (values all)) h.own.0.1 differences-long (ap (λ (p : Given). p.lent.0.1) whole)
 
     read_told : told o ≡ indices all
-    read_told = front (indices all) own.1 indices-long (ap (λ (p : Given). p.lent.1) whole)
-
-    -- the parts of the lists that hold them are so long
-    pub numbers_part : o.count ≡ length (numbers o)
-    numbers_part = read_count ∙ sym (ap length read-numbers ∙ numbers-long)
-
-    pub differences_part : o.count ≡ length (differences o)
-    differences_part = read_count ∙ sym (ap length read-differences ∙ differences-long)
-
-    pub told_part : o.count ≡ length (told o)
-    told_part = read_count ∙ sym (ap length read_told ∙ indices-long)
+    read_told = front (indices all) h.own.1 indices-long (ap (λ (p : Given). p.lent.1) whole)
 
     -- put together they are the events
     pub read-listed : (band : ℕ) → listed band (numbers o) (differences o) (told o) ≡ banded band all
-    read-listed band =
-        ap (banded band)
-        ((λ i. paired (paired (read-numbers i) (read-differences i)) (read_told i))
-        ∙ ap (λ (l : List (ℕ × ℤ)). paired l (indices all)) (paired_sides (values all))
-        ∙ paired_sides all)
+    read-listed band = (λ i. listed band (read-numbers i) (read-differences i) (read_told i)) ∙ listed_all band all
 
     pub read-few : o.count ≤ calls.places_for (length xs)
     read-few = omega (arith, read_count, told-count s xs, measured-few s xs k.ranged)
 
+    pub read_bound : o.count ≤ calls.most_events
+    read_bound = omega (arith, read-few, k.room)
+
     pub read-lists : AreEvents (numbers o) (differences o) (told o)
     read-lists =
         record {
-          measured = sym numbers_part ∙ differences_part;
-          told = sym numbers_part ∙ told_part;
+          measured = ap length read-numbers ∙ numbers-long ∙ sym (ap length read-differences ∙ differences-long);
+          told = ap length read-numbers ∙ numbers-long ∙ sym (ap length read_told ∙ indices-long);
           small = rw (read-numbers, told_values s xs, measured-numbers s xs) (small (receiver.events_after s xs) (events-known s xs k.ranged));
         }
 
@@ -243,62 +236,53 @@ module _ (t : Tap) (xs : List ℤ) where
         ap (λ (x : TapReading). outcome x.answer x.tap lent) q ∙ is-refused (block_tests t xs (shorter lent)) t lent (read lent) n e h
 
     -- what it has read: a and b are what the receivers gave
-    module _ (k : BothReadable (shorter lent)) (a b : Given) (ea : a ≡ calls.indexed_of t.first xs own) (eb : b ≡ calls.indexed_of t.second xs own) where
-      pub both_room : length (numbers a) + length (numbers b) ≤ shorter lent
-      both_room =
-          omega (
-            arith,
-            numbers_part t.first xs a ea k.first,
-            read-few t.first xs a ea k.first,
-            numbers_part t.second xs b eb k.second,
-            read-few t.second xs b eb k.second,
-            k.passed.room,
-          )
-
+    module _ (k : BothReadable (shorter lent)) {a b : Given} (ha : IsHeard t.first xs a) (hb : IsHeard t.second xs b) where
       -- the events merged, with their differences
-      abbrev together : List (ℕ × ℤ)
-      together = merged_events t.first.band (numbers a) (differences a) (told a) t.second.band (numbers b) (differences b) (told b)
+      abbrev pub together : List (ℕ × ℤ)
+      together = merged_events (listed t.first.band (numbers a) (differences a) (told a)) (listed t.second.band (numbers b) (differences b) (told b))
 
       together_all : together ≡ measured_after t xs
       together_all =
-          ap₂ (λ (l m : List ((ℕ × ℤ) × ℕ)). values (merged l m)) (read-listed t.first xs a ea k.first t.first.band)
-          (read-listed t.second xs b eb k.second t.second.band)
+          ap₂ (λ (l m : List ((ℕ × ℤ) × ℕ)). values (merged l m)) (read-listed ha k.first t.first.band)
+          (read-listed hb k.second t.second.band)
           ∙ in_order 0 t xs
 
-      pub both_read : (count : ℕ) (out : List ℕ) (beside : List ℤ) → count ≡ length (numbers a) + length (numbers b)
+      pub both_room : length together ≤ shorter lent
+      both_room =
+          omega (
+            arith,
+            ap length together_all,
+            both_count,
+            read_count ha k.first,
+            read-few ha k.first,
+            read_count hb k.second,
+            read-few hb k.second,
+            k.passed.room,
+          )
+
+      pub both_read : (count : ℕ) (out : List ℕ) (beside : List ℤ) → count ≡ length together
           → out ≡ sets lent.0 0 (numbers_of together) → beside ≡ sets lent.1 0 (differences_of together)
           → outcome (record { number = 0; count = count }) (record { first = a.state; second = b.state }) (out, beside) ≡ block_of t xs lent
       both_read count out beside ec eo eb' =
-          (λ i. record { number = 0; count = counted i; state = moved i; lent = (stored i, noted i) })
+          (λ i. record { number = 0; count = (ec ∙ ap length together_all) i; state = moved i; lent = (stored i, noted i) })
           ∙ sym (both_0 k)
         where
-          counted : count ≡ length (measured_after t xs)
-          counted =
-              omega (
-                arith,
-                ec,
-                numbers_part t.first xs a ea k.first,
-                read_count t.first xs a ea k.first,
-                numbers_part t.second xs b eb k.second,
-                read_count t.second xs b eb k.second,
-                both_count,
-              )
-
           moved : record { first = a.state; second = b.state } ≡ state_after t xs
           moved =
-              (λ i. record { first = read-state t.first xs a ea k.first i; second = read-state t.second xs b eb k.second i })
+              (λ i. record { first = read-state ha k.first i; second = read-state hb k.second i })
               ∙ sym (both_after t xs)
+
+          room : length (measured_after t xs) ≤ shorter lent
+          room = omega (arith, both_room, ap length together_all)
 
           stored : out ≡ over (numbers_of (measured_after t xs)) lent.0
           stored =
               eo
               ∙ ap (λ (l : List (ℕ × ℤ)). sets lent.0 0 (numbers_of l)) together_all
-              ∙ sets-front (numbers_of (measured_after t xs)) lent.0
-              (omega (arith, both_room, counted, ec, length-map (measured_after t xs) (λ (p : ℕ × ℤ). p.0)))
+              ∙ sets-front (numbers_of (measured_after t xs)) lent.0 (omega (arith, room, length-map (measured_after t xs) (λ (p : ℕ × ℤ). p.0)))
 
           noted : beside ≡ over (differences_of (measured_after t xs)) lent.1
           noted =
               eb'
               ∙ ap (λ (l : List (ℕ × ℤ)). sets lent.1 0 (differences_of l)) together_all
-              ∙ sets-front (differences_of (measured_after t xs)) lent.1
-              (omega (arith, both_room, counted, ec, length-map (measured_after t xs) (λ (p : ℕ × ℤ). p.1)))
+              ∙ sets-front (differences_of (measured_after t xs)) lent.1 (omega (arith, room, length-map (measured_after t xs) (λ (p : ℕ × ℤ). p.1)))

@@ -21,11 +21,11 @@ use Rattle.tap.proofs.Merging.{merged-first, merged-second}
 -- ---- what comes with one sample goes before all that comes later
 
 module _ {A : Type 0} where
-  goes_first : (k : ℕ) (n : A) (xs zs : List (A × ℕ)) → From k zs → comes_first (indices ((n, k) ∷ xs)) (indices zs) ≡ true
+  goes_first : (k : ℕ) (n : A) (xs zs : List (A × ℕ)) → From k zs → comes_first ((n, k) ∷ xs) zs ≡ true
   goes_first k n xs [] h = refl
   goes_first k n xs (z ∷ zs) (more l hs) = le-leb k z.1 l
 
-  goes_second : (k : ℕ) (n : A) (xs zs : List (A × ℕ)) → From (k + 1) xs → comes_first (indices xs) (indices ((n, k) ∷ zs)) ≡ false
+  goes_second : (k : ℕ) (n : A) (xs zs : List (A × ℕ)) → From (k + 1) xs → comes_first xs ((n, k) ∷ zs) ≡ false
   goes_second k n [] zs h = refl
   goes_second k n (x ∷ xs) zs (more l hs) = lt-leb x.1 k (omega arith)
 

@@ -1,17 +1,20 @@
 // A tap on a line that carries a pair of bands: one receiver of each, fed the same blocks. The events of both go to one list.
 #![tactic(auto)]
 
-ghost use Rattle.std.specs.Prelude.{◌≡◌, min};
+ghost use Rattle.std.specs.Prelude.{◌≡◌};
 ghost use Rattle.calls.specs.Refusals.{first_of};
 ghost use Rattle.calls.specs.Outcome.{outcome};
 ghost use Rattle.receiver.specs.Calls as receiver;
 ghost use Rattle.tap.specs.Calls.{open_of, block_tests, block_of};
 
+mod heard;
 mod merge;
 mod opening;
 
 use calls::Answer;
-use receiver::{MOST_EVENTS, Receiver};
+use heard::Heard;
+use merge::Merged;
+use receiver::Receiver;
 
 // The receivers of bands 1 and 2, or of 3 and 4.
 #[derive(Clone, Copy)]
@@ -58,43 +61,24 @@ impl Tap {
         ensures { outcome result.answer result.tap (events.new, differences.new)
             ≡ block_of self samples.now (events.old, differences.old) }
     {
-        let first = self.first;
-        let second = self.second;
-        let mut one = [0u16; MOST_EVENTS];
-        let mut one_by = [0i64; MOST_EVENTS];
-        let mut one_at = [0u16; MOST_EVENTS];
-        let mut two = [0u16; MOST_EVENTS];
-        let mut two_by = [0i64; MOST_EVENTS];
-        let mut two_at = [0u16; MOST_EVENTS];
-        let read_one = first.block_indexed(samples, &mut one, &mut one_by, &mut one_at);
-        let read_two = second.block_indexed(samples, &mut two, &mut two_by, &mut two_at);
-        let answer_one = read_one.answer;
-        let answer_two = read_two.answer;
-        let next_one = read_one.receiver;
-        let next_two = read_two.receiver;
-        let places = least(events.len(), differences.len());
-        let number = self.refusal(answer_one.number, answer_two.number, samples, places);
+        let mut one = Heard::new();
+        let mut two = Heard::new();
+        let first = one.read(self.first, samples);
+        let second = two.read(self.second, samples);
+        let places = events.len().min(differences.len());
+        let number = self.refusal(first.answer.number, second.answer.number, samples, places);
         if number != 0 {
-            return refused(first, second, number);
+            return refused(self.first, self.second, number);
         }
-        let m = answer_one.count;
-        let n = answer_two.count;
-        let count = merge::merge(
-            first.band,
-            &one[..m],
-            &one_by[..m],
-            &one_at[..m],
-            second.band,
-            &two[..n],
-            &two_by[..n],
-            &two_at[..n],
-            events,
-            differences,
-        );
+        let merged = Merged {
+            first: one.events(first.answer.count, self.first.band),
+            second: two.events(second.answer.count, self.second.band),
+        };
+        let count = merged.put(events, differences);
         TapReading {
             tap: Tap {
-                first: next_one,
-                second: next_two,
+                first: first.receiver,
+                second: second.receiver,
             },
             answer: Answer { number: 0, count },
         }
@@ -134,11 +118,4 @@ fn refused(first: Receiver, second: Receiver, number: u8) -> TapReading
         tap: Tap { first, second },
         answer: Answer { number, count: 0 },
     }
-}
-
-// The places of the shorter list.
-fn least(a: usize, b: usize) -> usize
-    ensures { result ≡ min a b }
-{
-    if a < b { a } else { b }
 }

@@ -1,63 +1,118 @@
 // The events of two receivers in one list.
-ghost use Rattle.std.specs.Prelude.{◌≡◌, ◌+◌, ◌*◌, ◌<◌, ◌≤◌, length, drop};
+ghost use Rattle.std.specs.Prelude.{◌≡◌, ◌+◌, ◌*◌, ◌<◌, ◌≤◌, List, ℕ, ℤ, length};
+ghost use Rattle.std.specs.Iterator.{YieldsFirst, item_count};
 ghost use Rattle.std.proofs.lemmas.List.Edits.{sets};
 ghost use Rattle.tap.specs.Step.{in_band};
-ghost use Rattle.tap.specs.AsCoded.{AreEvents, comes_first, merged_events, numbers_of, differences_of};
+ghost use Rattle.tap.specs.AsCoded.{AreEvents, listed, comes_first, IsTaken, merged_events, numbers_of, differences_of};
 
-// Merges two lists of events, `a` with the differences `c` and the indices `p` of their samples, and `b` with `d` and `q`, in the order of the
-// indices; of one sample the event of `a` goes first. Each is put down with the band of its list, and its difference at the same place. Gives
-// their count.
-pub(crate) fn merge(
-    first: u8,
-    a: &[u16],
-    c: &[i64],
-    p: &[u16],
-    second: u8,
-    b: &[u16],
-    d: &[i64],
-    q: &[u16],
-    out: &mut [u16],
-    beside: &mut [i64],
-) -> usize
-    requires first_bound { (first ≤ 60) × (second ≤ 60) }
-    requires are_events { AreEvents a.now c.now p.now × AreEvents b.now d.now q.now }
-    requires b_in_bounds { (length a.now + length b.now ≤ length out.old) × (length a.now + length b.now ≤ length beside.old) }
-    ensures count { result ≡ length a.now + length b.now }
-    ensures numbers { out.new ≡ sets out.old 0
-        (numbers_of (merged_events first a.now c.now p.now second b.now d.now q.now)) }
-    ensures differences { beside.new ≡ sets beside.old 0
-        (differences_of (merged_events first a.now c.now p.now second b.now d.now q.now)) }
-{
-    let total = a.len() + b.len();
-    let mut i: usize = 0;
-    let mut j: usize = 0;
-    while i + j < total {
-        let at = i + j;
-        if comes_first(p, i, q, j) {
-            let difference = c[i];
-            out[at] = in_band(first, a[i]);
-            beside[at] = difference;
-            i += 1;
-        } else {
-            let difference = d[j];
-            out[at] = in_band(second, b[j]);
-            beside[at] = difference;
-            j += 1;
-        }
-    }
-    i + j
+use std::marker::Model;
+
+// What a receiver gave for a block, and the band that each of its events gets: the numbers of the events, and place by place their differences
+// and the indices of their samples. A clause sees the events, each with its band, its difference and its index.
+#[derive(Drop)]
+pub(crate) struct Events<'a> {
+    band: u8,
+    numbers: &'a [u16],
+    differences: &'a [i64],
+    indices: &'a [u16],
 }
 
-// The next event is one of the first list: it has one left, and that comes with no later sample than the next of the second.
-fn comes_first(p: &[u16], i: usize, q: &[u16], j: usize) -> bool
-    ensures { result ≡ comes_first (drop i p.now) (drop j q.now) }
-{
-    if p.len() <= i {
-        false
-    } else if q.len() <= j {
-        true
-    } else {
-        p[i] <= q[j]
+impl<'a> Model for Events<'a> {
+    ghost Value = { List ((ℕ × ℤ) × ℕ) };
+
+    ghost view = { λ e. listed e.band e.numbers.now e.differences.now e.indices.now };
+
+    ghost invariant = { λ e. (e.band ≤ 60) × AreEvents e.numbers.now e.differences.now e.indices.now };
+}
+
+impl<'a> Events<'a> {
+    pub(crate) fn new(
+        band: u8,
+        numbers: &'a [u16],
+        differences: &'a [i64],
+        indices: &'a [u16],
+    ) -> Self
+        requires band { band ≤ 60 }
+        requires events { AreEvents numbers.now differences.now indices.now }
+        ensures { result ≡ listed band numbers.now differences.now indices.now }
+    {
+        Events {
+            band,
+            numbers,
+            differences,
+            indices,
+        }
+    }
+
+    // The next event is one of these: there is one, and it comes with no later sample than the next of the others.
+    fn comes_first(&self, others: &Events<'a>) -> bool
+        ensures { result ≡ comes_first self.now others.now }
+    {
+        match (self.indices, others.indices) {
+            ([], _) => false,
+            (_, []) => true,
+            ([first, ..], [other, ..]) => first <= other,
+        }
+    }
+
+    // Takes the first event, with its band, and its difference.
+    fn take(&mut self) -> Option<(u16, i64)>
+        ensures { IsTaken self.old result self.new }
+    {
+        let ([number, numbers @ ..], [difference, differences @ ..], [_, indices @ ..]) = (
+            self.numbers,
+            self.differences,
+            self.indices,
+        ) else {
+            return None;
+        };
+        let event = in_band(self.band, *number);
+        self.numbers = numbers;
+        self.differences = differences;
+        self.indices = indices;
+        Some((event, *difference))
+    }
+}
+
+// The events of two lists in the order of their indices; of one sample the event of the first goes first.
+#[derive(Drop)]
+pub(crate) struct Merged<'a> {
+    pub(crate) first: Events<'a>,
+    pub(crate) second: Events<'a>,
+}
+
+impl<'a> Iterator for Merged<'a> {
+    type Item = (u16, i64);
+
+    ghost next_gives = { YieldsFirst (λ m. merged_events m.first m.second) };
+
+    ghost remaining = { item_count (λ m. merged_events m.first m.second) };
+
+    fn next(&mut self) -> Option<(u16, i64)> {
+        if self.first.comes_first(&self.second) {
+            self.first.take()
+        } else {
+            self.second.take()
+        }
+    }
+}
+
+impl<'a> Merged<'a> {
+    // Puts the events down, and the difference of each at the same place. Gives their count.
+    pub(crate) fn put(self, events: &mut [u16], differences: &mut [i64]) -> usize
+        requires events_room { length (merged_events self.first self.second) ≤ length events.old }
+        requires differences_room { length (merged_events self.first self.second) ≤ length differences.old }
+        ensures count { result ≡ length (merged_events self.entry.first self.entry.second) }
+        ensures events { events.new ≡ sets events.old 0 (numbers_of (merged_events self.entry.first self.entry.second)) }
+        ensures differences { differences.new ≡ sets differences.old 0 (differences_of (merged_events self.entry.first self.entry.second)) }
+    {
+        let mut count = 0;
+        for (event, difference) in self {
+            events[count] = event;
+            differences[count] = difference;
+            count += 1;
+        }
+        count
     }
 }
 

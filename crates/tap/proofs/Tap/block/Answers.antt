@@ -1,146 +1,74 @@
 -- `tap::Tap::block` meets its contract: it is refused, or the events of both receivers are merged.
 -- Assumes nothing.
 use mathlib.Core.Path.{◌≡◌, sym, ap, ◌∙◌}
-use mathlib.Core.List.{List}
-use Prim.Native.Nat.{ℕ, ◌≤◌}
+use Prim.Native.Nat.{ℕ}
 use native.Mathlib.Omega.{arith}
-use lib.IntN.{ℤ}
-use lib.ListN.{length, take, length-take}
 use Rattle.calls.specs.Refusals.{first_of}
+use Rattle.calls.specs.Outcome.{outcome}
+use Rattle.receiver.specs.declared.Reading.{Reading}
 use Rattle.receiver.specs.Calls.{EventLists, shorter}
-use Rattle.tap.specs.declared.Tap.{Tap}
+use Rattle.tap.specs.declared.heard.Heard.{Heard}
 use Rattle.tap.specs.Calls.{block_tests}
-use Rattle.tap.proofs.Blocks.{read_number, numbers_part, differences_part, told_part, read-lists, BothReadable, both_known, bands-few, both_refusal, both_room, both_read}
+use Rattle.tap.proofs.Blocks.{Given, IsHeard, read_number, read_bound, read-lists, BothReadable, both_known, bands-few, both_refusal, both_room, both_read}
 use Rattle.tap.proofs.Tap.block.Goals as goal
+use Rattle.tap.proofs.Tap.block.Goals.{After-min-places, After-refusal-number}
 
-module _ (t : Tap) (xs : List ℤ) (lent : EventLists) {places number : ℕ} (said : number ≡ first_of (block_tests t xs places)) (least : places ≡ shorter lent) where
-  -- the number of a refusal, by the places of the shorter list
-  counts : number ≡ first_of (block_tests t xs (shorter lent))
-  counts = said ∙ ap (λ (n : ℕ). first_of (block_tests t xs n)) least
+-- what the receivers gave
+abbrev given : Reading → Heard → Given
+given r lists = outcome r.answer r.receiver ((lists.numbers, lists.differences), lists.indices)
 
-  -- no test holds
-  known : number ≡ 0 → BothReadable t xs (shorter lent)
-  known e = both_known t xs (shorter lent) (sym counts ∙ e)
+module _ (c : After-min-places) where
+  first : IsHeard c.args.self.first c.args.samples.now (given c.read-first.result c.read-first.new.self)
+  first = record { own = _; enough = c.new-one.ensures; read = c.read-first.ensures }
 
--- a part of a list that is as long as it is told is inside
-inside : {A : Type 0} (n : ℕ) (l : List A) → n ≡ length (take n l) → n ≤ length l
-inside n l e = omega (arith, length-take n l)
+  second : IsHeard c.args.self.second c.args.samples.now (given c.read-second.result c.read-second.new.self)
+  second = record { own = _; enough = c.new-two.ensures; read = c.read-second.ensures }
 
 pub refusal-number-requires : goal.refusal-number-requires
-refusal-number-requires c =
-    record {
-      one_value = read_number c.args.self.first c.args.samples.now _ c.block_indexed-read_one.ensures;
-      two_value = read_number c.args.self.second c.args.samples.now _ c.block_indexed-read_two.ensures;
-    }
+refusal-number-requires c = record { one_value = read_number (first c); two_value = read_number (second c) }
+
+module _ (c : After-refusal-number) where
+  abbrev lent : EventLists
+  lent = (c.args.events.now, c.args.differences.now)
+
+  -- the number of a refusal, by the places of the shorter list
+  counts : c.refusal-number.result ≡ first_of (block_tests c.args.self c.args.samples.now (shorter lent))
+  counts = c.refusal-number.ensures ∙ ap (λ (n : ℕ). first_of (block_tests c.args.self c.args.samples.now n)) c.min-places.ensures
+
+  -- no test holds
+  known : c.refusal-number.result ≡ 0 → BothReadable c.args.self c.args.samples.now (shorter lent)
+  known e = both_known c.args.self c.args.samples.now (shorter lent) (sym counts ∙ e)
 
 pub returns-then-number-ne0 : goal.returns-then-number-ne0
-returns-then-number-ne0 c =
-    let lent : EventLists = (c.args.events.now, c.args.differences.now) in
-    both_refusal c.args.self c.args.samples.now lent c.refused.result c.refusal-number.result
-    (counts c.args.self c.args.samples.now lent c.refusal-number.ensures c.least-places.ensures) c.if-number-ne0.true c.refused.ensures
+returns-then-number-ne0 c = both_refusal _ _ _ _ _ (counts (goal.at.returns-then-number-ne0 c).After-refusal-number) c.if-number-ne0.true c.refused.ensures
 
-pub slice_bounds-one-end : goal.slice_bounds-one-end
-slice_bounds-one-end c =
-    let k =
-    known c.args.self c.args.samples.now (c.args.events.now, c.args.differences.now) c.refusal-number.ensures c.least-places.ensures
-    c.if-number-ne0.false in
-    inside _ _ (numbers_part c.args.self.first c.args.samples.now _ c.block_indexed-read_one.ensures k.first)
+pub events-requires : goal.events-requires
+events-requires c =
+    let place = goal.at.events-requires c in
+    let k = known place.After-refusal-number c.if-number-ne0.false in
+    let h = first place.After-min-places in
+    record { band = (bands-few _ _ k).0; count = read_bound h k.first; events = read-lists h k.first }
 
-pub slice_bounds-merge-end : goal.slice_bounds-merge-end
-slice_bounds-merge-end c =
-    let k =
-    known c.args.self c.args.samples.now (c.args.events.now, c.args.differences.now) c.refusal-number.ensures c.least-places.ensures
-    c.if-number-ne0.false in
-    numbers_part c.args.self.first c.args.samples.now _ c.block_indexed-read_one.ensures k.first
+pub events-requires-2 : goal.events-requires-2
+events-requires-2 c =
+    let place = goal.at.events-requires-2 c in
+    let k = known place.After-refusal-number c.if-number-ne0.false in
+    let h = second place.After-min-places in
+    record { band = (bands-few _ _ k).1; count = read_bound h k.second; events = read-lists h k.second }
 
-pub slice_bounds-one_by-end : goal.slice_bounds-one_by-end
-slice_bounds-one_by-end c =
-    let k =
-    known c.args.self c.args.samples.now (c.args.events.now, c.args.differences.now) c.refusal-number.ensures c.least-places.ensures
-    c.if-number-ne0.false in
-    inside _ _ (differences_part c.args.self.first c.args.samples.now _ c.block_indexed-read_one.ensures k.first)
-
-pub slice_bounds-merge-end-2 : goal.slice_bounds-merge-end-2
-slice_bounds-merge-end-2 c =
-    let k =
-    known c.args.self c.args.samples.now (c.args.events.now, c.args.differences.now) c.refusal-number.ensures c.least-places.ensures
-    c.if-number-ne0.false in
-    differences_part c.args.self.first c.args.samples.now _ c.block_indexed-read_one.ensures k.first
-
-pub slice_bounds-one_at-end : goal.slice_bounds-one_at-end
-slice_bounds-one_at-end c =
-    let k =
-    known c.args.self c.args.samples.now (c.args.events.now, c.args.differences.now) c.refusal-number.ensures c.least-places.ensures
-    c.if-number-ne0.false in
-    inside _ _ (told_part c.args.self.first c.args.samples.now _ c.block_indexed-read_one.ensures k.first)
-
-pub slice_bounds-merge-end-3 : goal.slice_bounds-merge-end-3
-slice_bounds-merge-end-3 c =
-    let k =
-    known c.args.self c.args.samples.now (c.args.events.now, c.args.differences.now) c.refusal-number.ensures c.least-places.ensures
-    c.if-number-ne0.false in
-    told_part c.args.self.first c.args.samples.now _ c.block_indexed-read_one.ensures k.first
-
-pub slice_bounds-two-end : goal.slice_bounds-two-end
-slice_bounds-two-end c =
-    let k =
-    known c.args.self c.args.samples.now (c.args.events.now, c.args.differences.now) c.refusal-number.ensures c.least-places.ensures
-    c.if-number-ne0.false in
-    inside _ _ (numbers_part c.args.self.second c.args.samples.now _ c.block_indexed-read_two.ensures k.second)
-
-pub slice_bounds-merge-end-4 : goal.slice_bounds-merge-end-4
-slice_bounds-merge-end-4 c =
-    let k =
-    known c.args.self c.args.samples.now (c.args.events.now, c.args.differences.now) c.refusal-number.ensures c.least-places.ensures
-    c.if-number-ne0.false in
-    numbers_part c.args.self.second c.args.samples.now _ c.block_indexed-read_two.ensures k.second
-
-pub slice_bounds-two_by-end : goal.slice_bounds-two_by-end
-slice_bounds-two_by-end c =
-    let k =
-    known c.args.self c.args.samples.now (c.args.events.now, c.args.differences.now) c.refusal-number.ensures c.least-places.ensures
-    c.if-number-ne0.false in
-    inside _ _ (differences_part c.args.self.second c.args.samples.now _ c.block_indexed-read_two.ensures k.second)
-
-pub slice_bounds-merge-end-5 : goal.slice_bounds-merge-end-5
-slice_bounds-merge-end-5 c =
-    let k =
-    known c.args.self c.args.samples.now (c.args.events.now, c.args.differences.now) c.refusal-number.ensures c.least-places.ensures
-    c.if-number-ne0.false in
-    differences_part c.args.self.second c.args.samples.now _ c.block_indexed-read_two.ensures k.second
-
-pub slice_bounds-two_at-end : goal.slice_bounds-two_at-end
-slice_bounds-two_at-end c =
-    let k =
-    known c.args.self c.args.samples.now (c.args.events.now, c.args.differences.now) c.refusal-number.ensures c.least-places.ensures
-    c.if-number-ne0.false in
-    inside _ _ (told_part c.args.self.second c.args.samples.now _ c.block_indexed-read_two.ensures k.second)
-
-pub slice_bounds-merge-end-6 : goal.slice_bounds-merge-end-6
-slice_bounds-merge-end-6 c =
-    let k =
-    known c.args.self c.args.samples.now (c.args.events.now, c.args.differences.now) c.refusal-number.ensures c.least-places.ensures
-    c.if-number-ne0.false in
-    told_part c.args.self.second c.args.samples.now _ c.block_indexed-read_two.ensures k.second
-
-pub merge-count-requires : goal.merge-count-requires
-merge-count-requires c =
-    let t : Tap = c.args.self in
-    let xs : List ℤ = c.args.samples.now in
-    let lent : EventLists = (c.args.events.now, c.args.differences.now) in
-    let k = known t xs lent c.refusal-number.ensures c.least-places.ensures c.if-number-ne0.false in
-    let room = both_room t xs lent k _ _ c.block_indexed-read_one.ensures c.block_indexed-read_two.ensures in record {
-      first_bound = bands-few t xs k;
-      are_events =
-          (read-lists t.first xs _ c.block_indexed-read_one.ensures k.first, read-lists t.second xs _ c.block_indexed-read_two.ensures k.second);
-      b_in_bounds = (omega (arith, room), omega (arith, room));
-    }
+pub put-count-requires : goal.put-count-requires
+put-count-requires c =
+    let place = goal.at.put-count-requires c in
+    let k = known place.After-refusal-number c.if-number-ne0.false in
+    let room = both_room _ _ _ k (first place.After-min-places) (second place.After-min-places) in
+    rw (c.events.ensures, c.events-2.ensures) (record { events_room = omega (arith, room); differences_room = omega (arith, room) })
 
 pub returns : goal.returns
 returns c =
-    let t : Tap = c.args.self in
-    let xs : List ℤ = c.args.samples.now in
-    let lent : EventLists = (c.args.events.now, c.args.differences.now) in
-    let k = known t xs lent c.refusal-number.ensures c.least-places.ensures c.if-number-ne0.false in
-    both_read t xs lent k _ _ c.block_indexed-read_one.ensures c.block_indexed-read_two.ensures _ _ _ c.merge-count.ensures.count
-    c.merge-count.ensures.numbers c.merge-count.ensures.differences
+    let place = goal.at.returns c in
+    let k = known place.After-refusal-number c.if-number-ne0.false in
+    let put = c.put-count.ensures in
+    both_read _ _ _ k (first place.After-min-places) (second place.After-min-places) _ _ _
+    (rw (c.events.ensures, c.events-2.ensures) at put.count)
+    (rw (c.events.ensures, c.events-2.ensures) at put.events)
+    (rw (c.events.ensures, c.events-2.ensures) at put.differences)
