@@ -6,16 +6,15 @@ use mathlib.Core.List.{List, [], ◌∷◌}
 use mathlib.Mathlib.Data.Bool.Basic.{and_elim_left, and_elim_right}
 use Prim.Native.Nat.{ℕ, suc, ◌+◌, ◌<◌, ◌≤◌}
 use native.Mathlib.Omega.{arith}
-use lib.IntN.{ℤ, pos}
+use lib.IntN.{ℤ}
 use lib.ListN.{length, take, drop, length-map}
 use lib.Seq.{sets, take-append_seam}
 use Rattle.integers.specs.All.{All, none, more}
 use Rattle.integers.proofs.Lists.{sets-front}
 use Rattle.calls.specs.Refusals.{first_of}
-use Rattle.calls.specs.Outcome.{Outcome, outcome, refused, is_accepted, over, paired, accepted_in}
+use Rattle.calls.specs.Outcome.{Outcome, outcome, refused, is_accepted, over, accepted_in}
 use Rattle.calls.specs.Runs.{after}
 use Rattle.calls.proofs.Refusals.{not-refused, is-refused, refused_or}
-use Rattle.calls.proofs.Lists.{paired_sides}
 use Rattle.calls.proofs.Indexed.{values, indices}
 use Rattle.tones.specs.Bands.{is_pair}
 use Rattle.tones.proofs.Laws.{band-digit, pair-known}

@@ -1,6 +1,6 @@
 -- Two lists of events merged by their indices: which event is the next, and what is left behind it.
 -- Assumes nothing.
-use mathlib.Core.Path.{◌≡◌, refl, sym, ap, ◌∙◌}
+use mathlib.Core.Path.{◌≡◌, refl, sym, ap}
 use mathlib.Core.Bool.{true, false, true≢false, false≢true}
 use mathlib.Core.List.{List, [], ◌∷◌}
 use Prim.Native.Nat.{ℕ, suc, ◌+◌}
@@ -14,7 +14,7 @@ use Rattle.std.specs.Iterator.{YieldsFirst, MakesProgress, item_count}
 use Rattle.calls.proofs.Indexed.{values}
 use Rattle.integers.proofs.Tests.{cond_case}
 use Rattle.tap.specs.Step.{in_band}
-use Rattle.tap.specs.AsCoded.{merged, AreEvents, listed, comes_first, IsTaken, merged_events}
+use Rattle.tap.specs.AsCoded.{merged, listed, comes_first, IsTaken, merged_events}
 
 -- ---- the next of two lists
 
@@ -76,8 +76,7 @@ next_second [] [] ys' r e t = rw (t.0, t.1) (refl, refl)
 next_second (x ∷ xs) [] ys' r e t = absurd (true≢false e)
 next_second xs (y ∷ ys) ys' r e t = rw (t.0, t.1) (ap values (merged-second xs y ys e))
 
--- an iterator that gives the first of what is left has less left then
-pub progress : {S A : Type 0} {can : S → Type 0} (rest : S → List A) (s t : S) (r : Option A) → ((u : S) → can u) → YieldsFirst rest s r t
-    → MakesProgress can (item_count rest) s r t
-progress rest s t None free h = record { on = λ _. tt; keeps = tt; rests = λ _. tt }
-progress rest s t (Some x) free h = record { on = λ _. (free t, tt, omega (arith, ap length h)); keeps = free t; rests = λ _. tt }
+-- fewer are left then
+pub progress : {es es' : List (ℕ × ℤ)} {r : Option (ℕ × ℤ)} → Gives es r es' → MakesProgress (λ _. Unit {0}) (item_count (λ l. l)) es r es'
+progress {r = None} h = record { on = λ _. tt; keeps = tt; rests = λ _. tt }
+progress {r = Some e} h = record { on = λ _. (tt, tt, omega (arith, ap length h)); keeps = tt; rests = λ _. tt }

@@ -10,7 +10,7 @@ use lib.IntN.{ℤ}
 use Rattle.integers.specs.All.{none, more}
 use Rattle.integers.proofs.All.{all_append}
 use Rattle.calls.specs.Runs.{gives, indexed, with_index}
-use Rattle.calls.proofs.Indexed.{values, indices, values_with, From, with_from, from-before, indexed-from}
+use Rattle.calls.proofs.Indexed.{values, values_with, From, with_from, from-before, indexed-from}
 use Rattle.receiver.specs.declared.Receiver.{Receiver}
 use Rattle.receiver.specs.Step as receiver
 use Rattle.tap.specs.declared.Tap.{Tap}

@@ -2,12 +2,11 @@
 -- Assumes nothing.
 use Rattle.std.specs.Prelude.{Bool, cond, not, ◌&&◌, List, [], ◌∷◌, ℕ, ◌*◌, eqb, ℤ, length}
 use Rattle.calls.specs.Refusals.{Test, test, first_of}
-use Rattle.calls.specs.Outcome.{Outcome, unless_refused, accepted_in}
+use Rattle.calls.specs.Outcome.{Opening, Outcome, unless_refused, accepted_in}
 use Rattle.tones.specs.Bands.{is_band, is_pair}
 use Rattle.receiver.specs.Calls as receiver
 use Rattle.receiver.specs.Calls.{EventLists, two_lists, shorter}
 use Rattle.tap.specs.declared.Tap.{Tap}
-use Rattle.tap.specs.declared.OpenedTap.{OpenedTap}
 use Rattle.tap.specs.Step.{state_after, measured_after}
 
 -- ---- opening
@@ -21,9 +20,9 @@ abbrev pub open_tests : (first second : ℕ) → List Test
 open_tests first second = test 1 (not (is_band first && is_band second)) ∷ test 8 (not (is_pair first second)) ∷ []
 
 -- the fresh tap of the bands, or 1 or 8 and the fresh tap of 1 and 2
-unfoldable pub open_of : (first second : ℕ) → OpenedTap
+unfoldable pub open_of : (first second : ℕ) → Opening Tap
 open_of first second =
-    let number = first_of (open_tests first second) in record { number = number; tap = cond (eqb number 0) (fresh first second) (fresh 1 2) }
+    let number = first_of (open_tests first second) in record { number = number; state = cond (eqb number 0) (fresh first second) (fresh 1 2) }
 
 -- ---- the ranges of a state
 

@@ -3,7 +3,7 @@
 
 ghost use Rattle.std.specs.Prelude.{◌≡◌};
 ghost use Rattle.calls.specs.Refusals.{first_of};
-ghost use Rattle.calls.specs.Outcome.{outcome};
+ghost use Rattle.calls.specs.Outcome.{opened, outcome};
 ghost use Rattle.receiver.specs.Calls as receiver;
 ghost use Rattle.tap.specs.Calls.{open_of, block_tests, block_of};
 
@@ -11,7 +11,7 @@ mod heard;
 mod merge;
 mod opening;
 
-use calls::Answer;
+use calls::{Answer, Answered};
 use heard::Heard;
 use merge::Merged;
 use receiver::Receiver;
@@ -23,13 +23,6 @@ pub struct Tap {
     pub second: Receiver,
 }
 
-// What an opening answers: the number, and the fresh tap of the bands, or of 1 and 2 if it is refused.
-#[derive(Clone, Copy)]
-pub struct OpenedTap {
-    pub number: u8,
-    pub tap: Tap,
-}
-
 // What a block call answers: the next state, and the number with the count of events.
 #[derive(Clone, Copy)]
 pub struct TapReading {
@@ -38,21 +31,17 @@ pub struct TapReading {
 }
 
 impl Tap {
-    // The fresh receivers of a pair of bands.
-    pub fn open(first: u8, second: u8) -> OpenedTap
-        ensures { result ≡ open_of first second }
+    // The fresh receivers of a pair of bands; of 1 and 2 if it is refused.
+    #[tactic(auto, unfolding(crate::specs::Calls::open_of, tones::specs::Bands::is_pair))]
+    pub fn open(first: u8, second: u8) -> Answered<Tap, ()>
+        ensures { opened result ≡ open_of first second }
     {
-        let number = opening::refusal(first, second);
-        if number != 0 {
-            return OpenedTap {
-                number,
-                tap: opening::fresh(1, 2),
-            };
-        }
-        OpenedTap {
-            number,
-            tap: opening::fresh(first, second),
-        }
+        let answer = opening::check(first, second);
+        let state = match answer {
+            Ok(()) => opening::fresh(first, second),
+            Err(_) => opening::fresh(1, 2),
+        };
+        Answered { state, answer }
     }
 
     // Reads a block of samples with both receivers, each into lists of its own, and merges their events: the numbers go to `events`, and the

@@ -81,12 +81,18 @@ pub(crate) struct Merged<'a> {
     pub(crate) second: Events<'a>,
 }
 
+impl<'a> Model for Merged<'a> {
+    ghost Value = { List (ℕ × ℤ) };
+
+    ghost view = { λ m. merged_events m.first m.second };
+}
+
 impl<'a> Iterator for Merged<'a> {
     type Item = (u16, i64);
 
-    ghost next_gives = { YieldsFirst (λ m. merged_events m.first m.second) };
+    ghost next_gives = { YieldsFirst (λ es. es) };
 
-    ghost remaining = { item_count (λ m. merged_events m.first m.second) };
+    ghost remaining = { item_count (λ es. es) };
 
     fn next(&mut self) -> Option<(u16, i64)> {
         if self.first.comes_first(&self.second) {
@@ -100,11 +106,11 @@ impl<'a> Iterator for Merged<'a> {
 impl<'a> Merged<'a> {
     // Puts the events down, and the difference of each at the same place. Gives their count.
     pub(crate) fn put(self, events: &mut [u16], differences: &mut [i64]) -> usize
-        requires events_room { length (merged_events self.first self.second) ≤ length events.old }
-        requires differences_room { length (merged_events self.first self.second) ≤ length differences.old }
-        ensures count { result ≡ length (merged_events self.entry.first self.entry.second) }
-        ensures events { events.new ≡ sets events.old 0 (numbers_of (merged_events self.entry.first self.entry.second)) }
-        ensures differences { differences.new ≡ sets differences.old 0 (differences_of (merged_events self.entry.first self.entry.second)) }
+        requires events_room { length self ≤ length events.old }
+        requires differences_room { length self ≤ length differences.old }
+        ensures count { result ≡ length self.entry }
+        ensures events { events.new ≡ sets events.old 0 (numbers_of self.entry) }
+        ensures differences { differences.new ≡ sets differences.old 0 (differences_of self.entry) }
     {
         let mut count = 0;
         for (event, difference) in self {
@@ -121,5 +127,5 @@ fn in_band(band: u8, event: u16) -> u16
     requires { (band ≤ 60) × (event < 1000) }
     ensures { result ≡ in_band band event }
 {
-    1000 * (band as u16) + event
+    1000 * u16::from(band) + event
 }

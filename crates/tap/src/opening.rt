@@ -1,25 +1,24 @@
 // What an opening is refused with, and the fresh tap of a pair of bands.
 ghost use Rattle.std.specs.Prelude.{◌≡◌, true};
-ghost use Rattle.calls.specs.Refusals.{first_of};
+ghost use Rattle.calls.specs.Refusals.{refusal_number, first_of};
 ghost use Rattle.tones.specs.Bands.{is_pair};
 ghost use Rattle.tap.specs.Calls.{fresh, open_tests};
 
 use super::Tap;
+use calls::Refusal;
 use receiver::Receiver;
 
-// The number of the first reason to refuse an opening, or 0.
-pub(crate) fn refusal(first: u8, second: u8) -> u8
-    ensures { result ≡ first_of (open_tests first second) }
+// The first reason to refuse an opening.
+pub(crate) fn check(first: u8, second: u8) -> Result<(), Refusal>
+    ensures { refusal_number result ≡ first_of (open_tests first second) }
 {
-    let known = tones::is_band(first) & tones::is_band(second);
-    let pair = tones::is_pair(first, second);
-    if !known {
-        return 1;
+    if !tones::is_band(first) || !tones::is_band(second) {
+        return Err(Refusal::UnknownBand);
     }
-    if !pair {
-        return 8;
+    if !tones::is_pair(first, second) {
+        return Err(Refusal::NotAPair);
     }
-    0
+    Ok(())
 }
 
 // The fresh receivers of the bands.
@@ -27,9 +26,8 @@ pub(crate) fn fresh(first: u8, second: u8) -> Tap
     requires { is_pair first second ≡ true }
     ensures { result ≡ fresh first second }
 {
-    let one = Receiver::open(first);
-    let two = Receiver::open(second);
-    let first = one.receiver;
-    let second = two.receiver;
-    Tap { first, second }
+    Tap {
+        first: Receiver::open(first).receiver,
+        second: Receiver::open(second).receiver,
+    }
 }

@@ -2,11 +2,10 @@
 -- "Refused calls".
 -- Assumes nothing.
 use Rattle.std.specs.Prelude.{cond, List, ℕ, eqb, ℤ}
-use Rattle.calls.specs.Outcome.{Outcome}
+use Rattle.calls.specs.Outcome.{Opening, Outcome}
 use Rattle.receiver.specs.Calls.{EventLists}
 use Rattle.receiving.specs.Numbers.{receiver_of, numbers_of}
 use Rattle.tap.specs.declared.Tap.{Tap}
-use Rattle.tap.specs.declared.OpenedTap.{OpenedTap}
 use Rattle.tap.specs.declared.TapReading.{TapReading}
 use Rattle.tap.specs.Calls.{block_of}
 use Rattle.tapping.specs.declared.Taps.{Taps}
@@ -23,8 +22,8 @@ tap_numbers t = record { first = numbers_of t.first; second = numbers_of t.secon
 
 -- ---- an opening
 
-abbrev pub opened_numbers : OpenedTap → TapOpening
-opened_numbers o = record { number = o.number; tap = tap_numbers o.tap }
+abbrev pub opened_numbers : Opening Tap → TapOpening
+opened_numbers o = record { number = o.number; tap = tap_numbers o.state }
 
 -- ---- a block call
 

@@ -42,8 +42,8 @@ pub fn modem_tap_open(first: u8, second: u8) -> TapOpening
 {
     let opened = Tap::open(first, second);
     TapOpening {
-        number: opened.number,
-        tap: Taps::from(opened.tap),
+        number: opened.answer.err().map_or(0, u8::from),
+        tap: Taps::from(opened.state),
     }
 }
 

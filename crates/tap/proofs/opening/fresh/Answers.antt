@@ -9,8 +9,7 @@ use Rattle.tap.proofs.opening.fresh.Goals as goal
 pub returns : goal.returns
 returns c =
     let known = pair-known c.args.first c.args.second c.requires in
-    λ i.
-    record {
-      first = (ap (λ (o : Opened). o.receiver) c.open-one.ensures ∙ open_band c.args.first known.0) i;
-      second = (ap (λ (o : Opened). o.receiver) c.open-two.ensures ∙ open_band c.args.second known.1) i;
-    }
+    rw (
+      ap (λ (o : Opened). o.receiver) c.open.ensures ∙ open_band c.args.first known.0,
+      ap (λ (o : Opened). o.receiver) c.open-2.ensures ∙ open_band c.args.second known.1,
+    )
