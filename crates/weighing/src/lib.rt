@@ -3,50 +3,35 @@
 // Every function takes every value of its types.
 #![tactic(auto)]
 
-ghost use Rattle.std.specs.Prelude.{◌≡◌, true, false, cond, ◌*◌, ◌≤◌, ltb, nat_abs, pos, ◌-ℤ◌, ◌*ℤ◌};
+ghost use Rattle.std.specs.Prelude.{◌≡◌, true, cond, ◌*◌, ◌≤◌, ltb, pos, ◌-ℤ◌, ◌*ℤ◌};
 ghost use Rattle.std.specs.Int.Signed.{lt_z, le_z};
-ghost use Rattle.control.specs.declared.Bit.TheVariants.{Mark, Space, Doubtful};
-ghost use Rattle.weighing.specs.Weighing.{larger, smaller, decided};
+ghost use Rattle.weighing.specs.Weighing.{decided};
 
 use control::{Bit, Decision};
 
+// The least energy of a good level.
+const LEVEL: i64 = 32_400_000_000_000_000;
+
 // What two energies decide.
+#[tactic(auto, unfolding(crate::specs::Weighing::weighed, crate::specs::Weighing::is_doubtful, crate::specs::Weighing::apart))]
 pub fn weigh(space: i64, mark: i64) -> Decision
     ensures { result ≡ decided space mark }
 {
-    let most = larger(space, mark);
+    let most = mark.max(space);
+    let least = mark.min(space);
     let above = mark < space;
-    let least = smaller(space, mark);
-    let bit = bit_of(are_close(most, least), above);
-    Decision {
-        good: 32_400_000_000_000_000 <= most,
-        space: above,
-        bit,
-        difference: apart(most, least),
-    }
-}
-
-fn larger(a: i64, b: i64) -> i64
-    ensures { result ≡ larger a b }
-{
-    if a < b { b } else { a }
-}
-
-fn smaller(a: i64, b: i64) -> i64
-    ensures { result ≡ smaller a b }
-{
-    if a < b { a } else { b }
-}
-
-fn bit_of(doubtful: bool, space: bool) -> Bit
-    ensures { result ≡ cond doubtful Doubtful (cond space Space Mark) }
-{
-    if doubtful {
+    let bit = if are_close(most, least) {
         Bit::Doubtful
-    } else if space {
+    } else if above {
         Bit::Space
     } else {
         Bit::Mark
+    };
+    Decision {
+        good: LEVEL <= most,
+        space: above,
+        bit,
+        difference: apart(most, least),
     }
 }
 
@@ -63,18 +48,7 @@ fn are_close(most: i64, least: i64) -> bool
     requires { le_z least most ≡ true }
     ensures { result ≡ lt_z (pos 4 *ℤ most) (pos 5 *ℤ least) }
 {
-    if least <= 0 {
-        return false;
-    }
-    near(natural(most), natural(least))
-}
-
-// A number that is not negative.
-fn natural(energy: i64) -> u64
-    requires { lt_z energy (pos 0) ≡ false }
-    ensures { result ≡ nat_abs energy }
-{
-    energy as u64
+    0 < least && near(most.unsigned_abs(), least.unsigned_abs())
 }
 
 // The same without products, which 64 bits might not hold: the difference is less than a quarter of the smaller, rounded up.
@@ -82,5 +56,5 @@ fn near(most: u64, least: u64) -> bool
     requires { (least ≤ most) × (most ≤ 9223372036854775808) }
     ensures { result ≡ ltb (4 * most) (5 * least) }
 {
-    most - least < (least + 3) / 4
+    most - least < least.div_ceil(4)
 }
