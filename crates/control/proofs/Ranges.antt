@@ -58,10 +58,6 @@ slot_below slot byte nz h =
     (λ l e. ltb-true byte (2 ^ (slot - 1)) e)
     (and_elim_right (leb slot 9) (cond (ltb slot 2) (eqb byte 0) (ltb byte (2 ^ (slot - 1)))) h)
 
--- the weight of a data bit fits a byte
-pub weight_most : (slot : ℕ) → slot ≤ 8 → 2 ^ (slot - 1) ≤ 128
-weight_most slot h = pow_mono {i = slot - 1} {j = 7} (omega arith)
-
 -- the next slot, with the bit gathered
 slot_next : (slot byte bit : ℕ) → (slot ≡ 0 → ⊥) → slot ≤ 8 → bit < 2 → byte < 2 ^ (slot - 1) → is_slot (slot + 1) (byte + 2 ^ (slot - 1) * bit) ≡ true
 unfolding is_slot

@@ -43,10 +43,6 @@ module _ (byte : ℕ) (d : Decision) where
     start_mark g s = simp (z, g, s)
 
   module _ (slot : ℕ) (nz : slot ≡ 0 → ⊥) where
-    pub lost : d.good ≡ false → taken slot byte d ≡ report CarrierLost
-    unfolding taken
-    lost g = simp (ne_eqb slot 0 nz, g)
-
     pub bit_taken_good : d.good ≡ true → taken slot byte d ≡ bit_taken slot byte d.bit
     unfolding taken
     bit_taken_good g = simp (ne_eqb slot 0 nz, g)

@@ -110,7 +110,7 @@ fn next_of(stage: Stage, run: u8, d: Decision) -> Next
 {
     match asks_for(stage) {
         Asked::Tone { space, then } => {
-            if is_found(space, run as usize, d) {
+            if is_found(space, usize::from(run), d) {
                 Next::quiet(then)
             } else {
                 Next::quiet(stage)

@@ -16,19 +16,13 @@ use Rattle.doubts.specs.Doubts.{NoneDoubtful, Doubts}
 use Rattle.doubts.proofs.Told.{told-exactly, then_searches, some_doubt}
 
 -- neither a byte nor a break is 259
-byte-clear : (n : ℕ) → n < 256 → n ≡ bit_doubtful → ⊥
-byte-clear n l e = omega arith
-
-break-clear : break_begun ≡ bit_doubtful → ⊥
-break-clear e = omega arith
-
 bytes-clear : {ns : List ℕ} → AreBytes ns → NoneDoubtful ns
 bytes-clear none = none
-bytes-clear (more {x = n} l ls) = more (byte-clear n l) (bytes-clear ls)
+bytes-clear (more {x = n} l ls) = more (λ e. omega arith) (bytes-clear ls)
 
 item_clear : (item : Item) → IsItem item → NoneDoubtful (item_event item)
-item_clear (character c) l = more (byte-clear c l) none
-item_clear (break bits) l = more break-clear none
+item_clear (character c) l = more (λ e. omega arith) none
+item_clear (break bits) l = more (λ e. omega arith) none
 
 items-clear : {items : List Item} → All IsItem items → NoneDoubtful (each item_event items)
 items-clear none = none
