@@ -8,7 +8,6 @@ use Prim.Native.Nat.{ℕ, zero, suc, ◌+◌, ◌-◌, ◌*◌, ◌^◌, ◌<◌
 use native.Mathlib.Omega.{arith}
 use borrow.Author.Tests.{lt-ltb, le-ltb, le-leb, ne_eqb, ltb-true, leb-true, eqb-true, eqb-false}
 use lib.Dec.{ltb, leb, eqb}
-use lib.Pow.{pow_mono}
 use Rattle.integers.proofs.Tests.{cond_case, cond-split}
 use Rattle.calls.specs.Runs.{after}
 use Rattle.control.specs.declared.Decision.{Decision}
