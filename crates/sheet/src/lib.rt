@@ -18,6 +18,7 @@ pub enum Line {
 }
 
 // The three lines above the samples.
+#[tactic(auto, unfolding(crate::specs::Text::head_of))]
 pub fn head_of(digit: u8) -> [u8; 14]
     ensures { result ≡ head_of digit }
 {

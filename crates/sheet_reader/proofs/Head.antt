@@ -47,3 +47,6 @@ module _ (t : List ℕ) where
     is_head lines s d =
         let starts : starts_with (head_of x) t ≡ true = rw s (starts_append (head_of x) lines) in
         record { headed = and_intro (rw e at starts) (rw e at d); band_read = rw e; behind = rw s }
+
+-- for the search of the check
+pub ruleset heads = (headless, no_digit)

@@ -1,8 +1,9 @@
 -- What a text is refused with, from what its parts tell: the head, the first look at the lines, and the tests of these.
 -- Assumes nothing.
-use Rattle.std.proofs.Common.{◌≡◌, refl, ap, ◌∙◌, Bool, true, false, None, Some, Ok, Err, List, ℕ, ◌≤◌, ℤ, length, if◌then◌else◌}
+use Rattle.std.proofs.Common.{◌≡◌, refl, ap, ◌∙◌, Bool, true, false, None, Some, Ok, Err, List, ℕ, ◌<◌, ◌≤◌, ℤ, length, if◌then◌else◌}
 use mathlib.Mathlib.Data.Bool.Basic.{and_intro}
 use Rattle.calls.specs.declared.Refusal.{Refusal}
+use Rattle.calls.specs.declared.Refusal.TheVariants.{SheetTooLong, NotASheet}
 use Rattle.calls.specs.Refusals.{number_of, first_of}
 use Rattle.calls.specs.Outcome.{over, accepted}
 use Rattle.calls.proofs.Refusals.{answer_refused, answer_accepted}
@@ -10,7 +11,7 @@ use Rattle.tones.specs.Samples.{are_samples}
 use Rattle.sheet.specs.Parse.{line_after, samples_in, is_start, is_headed, is_sheet, band_in, samples_of}
 use Rattle.sheet.specs.Calls.{most_bytes, samples_tests, read_tests, read_of}
 use Rattle.sheet.specs.declared.Line.TheVariants.{Start}
-use Rattle.sheet.proofs.Calls.{read_7, read_others}
+use Rattle.sheet.proofs.Calls.{read_6, read_7, read_others}
 use Rattle.sheet.proofs.LinesWritten.{is_start_lem}
 use Rattle.sheet_reader.specs.Reading.{reading}
 use Rattle.sheet_reader.specs.AsCoded.{IsHead, seen_of}
@@ -42,30 +43,37 @@ none_found lines e = go (is_start (line_after (Some Start) lines)) refl e
     go false e s = e
 
 module _ (text : List ℕ) (lent : List ℤ) where
-  pub refused_as : (r : Refusal) → number_of r ≡ first_of (read_tests text (length lent)) → reading (Err r) lent ≡ read_of text lent
+  refused_as : (r : Refusal) → number_of r ≡ first_of (read_tests text (length lent)) → reading (Err r) lent ≡ read_of text lent
   unfolding read_of
   refused_as r e = answer_refused (read_tests text (length lent)) 0 lent (accepted (band_in text) (samples_of text) lent) r e
 
+  pub too_long : most_bytes < length text → reading (Err SheetTooLong) lent ≡ read_of text lent
+  too_long h = refused_as SheetTooLong (read_6 text (length lent) h)
+
   module _ (short : length text ≤ most_bytes) where
-    pub headless_7 : is_headed text ≡ false → 7 ≡ first_of (read_tests text (length lent))
+    pub headless : is_headed text ≡ false → reading (Err NotASheet) lent ≡ read_of text lent
     unfolding is_sheet
-    headless_7 h = read_7 text (length lent) short (rw h)
+    headless h = refused_as NotASheet (read_7 text (length lent) short (rw h))
 
     module _ {band : ℕ} {lines : List ℕ} (h : IsHead text band lines) where
-      pub lineless_7 : None ≡ seen_of lines → 7 ≡ first_of (read_tests text (length lent))
+      pub lineless : None ≡ seen_of lines → reading (Err NotASheet) lent ≡ read_of text lent
       unfolding is_sheet
-      lineless_7 e = read_7 text (length lent) short (rw (h.headed, ← h.behind, none_found lines e))
+      lineless e = refused_as NotASheet (read_7 text (length lent) short (rw (h.headed, ← h.behind, none_found lines e)))
 
       module _ (seen : Seen) (s : Some seen ≡ seen_of lines) where
         pub ended : line_after (Some Start) lines ≡ Some Start
         ended = is_start_lem (line_after (Some Start) lines) (seen_found lines seen s).0
 
-        pub judged : first_of (samples_tests band seen.count seen.sound (length lent)) ≡ first_of (read_tests text (length lent))
+        form : is_sheet text ≡ true
         unfolding is_sheet
-        judged =
-            let f = seen_found lines seen s in
-            let form : is_sheet text ≡ true = and_intro h.headed (rw h.behind at f.0) in
-            rw (f.1, h.band_read, h.behind) (read_others text (length lent) short form)
+        form = and_intro h.headed (rw h.behind at (seen_found lines seen s).0)
+
+        judged : first_of (samples_tests band seen.count seen.sound (length lent)) ≡ first_of (read_tests text (length lent))
+        judged = rw ((seen_found lines seen s).1, h.band_read, h.behind) (read_others text (length lent) short form)
+
+        pub refused_in : (r : Refusal) → number_of r ≡ first_of (samples_tests band seen.count seen.sound (length lent))
+            → reading (Err r) lent ≡ read_of text lent
+        refused_in r e = refused_as r (e ∙ judged)
 
         pub accepted_as : 0 ≡ first_of (samples_tests band seen.count seen.sound (length lent)) → (now : List ℤ)
             → now ≡ over (samples_in (Some Start) lines) lent → reading (Ok (record { band = band; count = seen.count })) now ≡ read_of text lent
@@ -75,3 +83,6 @@ module _ (text : List ℕ) (lent : List ℤ) where
             ap (λ (f : Seen). f.count) (seen_found lines seen s).1 ∙ ap (λ (l : List ℕ). length (samples_in (Some Start) l)) h.behind in
             rw h.band_read
             (answer_accepted (read_tests text (length lent)) 0 lent (e ∙ judged) (band_in text) (samples_of text) seen.count now count (rw h.behind at o))
+
+-- for the search of the check
+pub ruleset judgements = (too_long, headless, lineless, ended, refused_in)

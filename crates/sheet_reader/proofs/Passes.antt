@@ -199,3 +199,6 @@ module _ {t : List ℕ} {lent now : List ℤ} {line : Line} {count i : ℕ} (p :
 
   pub filled_all : length t ≤ i → length (samples_in (Some Start) t) ≤ length lent → now ≡ over (samples_in (Some Start) t) lent
   filled_all h room = filling_front (rw (samples_end t i line h) at p.filling) room
+
+-- for the search of the check
+pub ruleset fills = (filled_start, filled_room, filled_some, filled_all)

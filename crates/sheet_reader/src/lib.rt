@@ -19,6 +19,7 @@ pub struct Sheet {
 }
 
 // Reads a sheet. Its samples go to the buffer's front.
+#[tactic(auto, using(crate::proofs::Judged::judgements))]
 pub fn read(text: &[u8], out: &mut [i16]) -> Result<Sheet, Refusal>
     ensures { reading result out.new ≡ read_of text.now out.old }
 {

@@ -1,4 +1,4 @@
-// One line of a sample, byte by byte. These are functions and no methods, since `Line` is a type of the crate `sheet`, for its definitions.
+// One line of a sample, byte by byte. Functions, not methods: the type `Line` belongs to the crate `sheet`, whose definitions need it.
 ghost use Rattle.std.specs.Prelude.{◌≡◌, ◌<◌};
 ghost use Rattle.sheet.specs.Parse.{next, sample_of};
 ghost use Rattle.sheet_reader.specs.AsCoded.{Small};

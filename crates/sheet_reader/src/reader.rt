@@ -12,12 +12,13 @@ use calls::Refusal;
 use sheet::Line;
 
 // The band and the lines of samples, if the three lines above them are there, with any digit.
+#[tactic(auto, using(crate::proofs::Head::heads))]
 pub(crate) fn split(text: &[u8]) -> Option<(u8, &[u8])>
     ensures { MatchOption result (is_headed text.now ≡ false) (λ p. IsHead text.now p.0 p.1.now) }
 {
     let digit = *text.get(5)?;
     let lines = text.strip_prefix(&sheet::head_of(digit))?;
-    if !digits::is_digit(digit) {
+    if !digit.is_ascii_digit() {
         return None;
     }
     Some((digit - b'0', lines))
@@ -32,6 +33,7 @@ pub(crate) struct Seen {
 
 impl Seen {
     // The first pass over the lines: None if a sheet has no such lines.
+    #[tactic(auto, using(crate::proofs::Passes::looked_start))]
     pub(crate) fn of(lines: &[u8]) -> Option<Seen>
         ensures { result ≡ seen_of lines.now }
     {
@@ -72,6 +74,7 @@ impl Seen {
 }
 
 // The second pass: puts the samples at the buffer's front.
+#[tactic(auto, using(crate::proofs::Passes::fills))]
 pub(crate) fn fill(lines: &[u8], out: &mut [i16])
     requires ended { line_after (Some Start) lines.now ≡ Some Start }
     requires room { length (samples_in (Some Start) lines.now) ≤ length out.old }

@@ -1,13 +1,20 @@
 -- Writing in parts: the lines that are left at a place of the samples, and the head with all lines behind it.
 -- Assumes nothing.
-use Rattle.std.proofs.Common.{◌≡◌, refl, sym, ap, ◌∙◌, List, [], ◌∷◌, ◌++◌, ℕ, ◌+◌, ◌<◌, ◌≤◌, ℤ, pos, length, get_or, drop, add-one, arith, length-append, drop-cons, to_z, of_z, w16}
-use lib.ListN.{drop_of_length-le}
+use Rattle.std.proofs.Common.{◌≡◌, refl, sym, ap, ◌∙◌, List, ◌++◌, ℕ, ◌+◌, ◌<◌, ◌≤◌, ℤ, pos, length, get_or, drop, add-one, arith, length-append, drop-cons, Ok, Err, to_z, of_z, w16}
 use lib.Seq.{sets}
 use mir.Facts.{to_z-of_z}
 use mir.Val.{SFits}
 use Rattle.integers.proofs.Lists.{sets_append, sets-front}
-use Rattle.calls.proofs.Filling.{Filling, filling_start, filling_more, filling_end}
+use Rattle.calls.specs.declared.Refusal.{Refusal}
+use Rattle.calls.specs.Refusals.{number_of, first_of}
+use Rattle.calls.specs.Outcome.{outcome, as_answer, accepted}
+use Rattle.calls.proofs.Refusals.{answer_refused, answer_accepted}
+use Rattle.calls.proofs.Filling.{Filling, filling_start, filling_more}
+use Rattle.tones.proofs.Laws.{band-digit}
 use Rattle.sheet.specs.Text.{line_of, lines_of, head_of, sheet_of}
+use Rattle.sheet.specs.Calls.{most_bytes, write_tests, write_of}
+use Rattle.sheet.proofs.Calls.{Writable, writable}
+use Rattle.sheet_writer.proofs.Lengths.{sheet_lines}
 
 -- ---- the lines
 
@@ -34,9 +41,36 @@ module _ {zs : List ℤ} {lent now : List ℕ} {at i : ℕ} (p : Lined zs lent n
     pub lined_more : Lined zs lent (sets now at line) (at + length line) (i + 1)
     lined_more = record { whole = left; filling = filling_more line (lines_of (drop (i + 1) zs)) (rw next at p.filling) }
 
+-- for the search of the check
+pub ruleset lines = (lined_start, lined_more)
+
 -- ---- the whole sheet
 
-pub sheet_filled : (band : ℕ) (zs : List ℤ) (lent : List ℕ) → length (sheet_of band zs) ≤ length lent
-    → sets (sets lent 0 (head_of (48 + band))) 14 (lines_of zs) ≡ sheet_of band zs ++ drop (length (sheet_of band zs)) lent
-unfolding sheet_of head_of
-sheet_filled band zs lent h = sym (sets_append lent 0 (head_of (48 + band)) (lines_of zs)) ∙ sets-front (sheet_of band zs) lent h
+module _ (band : ℕ) (zs : List ℤ) (lent : List ℕ) where
+  -- a refusal
+  pub refused_as : (r : Refusal) → number_of r ≡ first_of (write_tests band zs (length lent)) → outcome (as_answer (Err r)) tt lent ≡ write_of band zs lent
+  unfolding write_of
+  refused_as r e = answer_refused (write_tests band zs (length lent)) tt lent (accepted tt (sheet_of band zs) lent) r e
+
+  -- nothing is refused
+  module _ (e : 0 ≡ first_of (write_tests band zs (length lent))) where
+    all : Writable band zs (length lent)
+    all = writable band zs (length lent) (sym e)
+
+    pub digit : band < 10
+    digit = band-digit band all.known
+
+    pub lines-room : 14 + length (lines_of zs) ≤ most_bytes
+    lines-room = omega (arith, sheet_lines band zs, all.short)
+
+    -- the head and all lines behind it
+    pub accepted_as : (count : ℕ) → count ≡ 14 + length (lines_of zs) → (now : List ℕ) → now ≡ sets (sets lent 0 (head_of (48 + band))) 14 (lines_of zs)
+        → outcome (as_answer (Ok count)) tt now ≡ write_of band zs lent
+    unfolding write_of sheet_of head_of
+    accepted_as count n now o =
+        answer_accepted (write_tests band zs (length lent)) tt lent e tt (sheet_of band zs) count now
+        (n ∙ sym (sheet_lines band zs))
+        (o ∙ sym (sets_append lent 0 (head_of (48 + band)) (lines_of zs)) ∙ sets-front (sheet_of band zs) lent all.places)
+
+-- for the search of the check
+pub ruleset sheets = (refused_as, digit, lines-room, accepted_as)

@@ -10,6 +10,7 @@ mod writer;
 use calls::Refusal;
 
 // Writes the sheet of a band and samples to the buffer's front, and gives its length.
+#[tactic(auto, using(crate::proofs::Writing::sheets))]
 pub fn write(band: u8, samples: &[i16], out: &mut [u8]) -> Result<usize, Refusal>
     ensures { outcome (as_answer result) tt out.new ≡ write_of band samples.now out.old }
 {

@@ -34,6 +34,7 @@ pub(crate) fn check(band: u8, samples: &[i16], room: usize) -> Result<(), Refusa
 }
 
 // A line for each sample, behind the three above them. Gives the length of the whole sheet.
+#[tactic(auto, using(crate::proofs::Writing::lines))]
 pub(crate) fn put_lines(out: &mut [u8], samples: &[i16]) -> usize
     requires { 14 + length (lines_of samples.now) ≤ most_bytes }
     ensures count { result ≡ 14 + length (lines_of samples.now) }
@@ -48,7 +49,7 @@ pub(crate) fn put_lines(out: &mut [u8], samples: &[i16]) -> usize
     at
 }
 
-// The length of all lines. No line has more than 6 bytes.
+// The length of all lines.
 fn lines_len(samples: &[i16]) -> usize
     requires { sum_by (λ z. length (line_of z)) samples.now < 2 ^ 64 }
     ensures { result ≡ sum_by (λ z. length (line_of z)) samples.now }
@@ -56,7 +57,7 @@ fn lines_len(samples: &[i16]) -> usize
     samples.iter().map(|&sample| line_of(sample).len()).sum()
 }
 
-// The line of a sample: a minus if it is negative, its digits, and the line feed.
+// The line of a sample: a minus if it is negative, at most five digits, and the line feed.
 #[tactic(auto, unfolding(sheet::specs::Text::line_of))]
 fn line_of(sample: i16) -> ArrayVec<u8, 7>
     ensures { result.items ≡ line_of sample }

@@ -7,7 +7,7 @@ ghost use Rattle.sheet.specs.Calls.{read_of, write_of};
 
 use calls::Answer;
 
-// What a reading answers: the number, the band, 0 for a refusal, and the count of samples.
+// What a reading answers: the number, the band, 0 for a refusal, and the count of samples. C programs get it as it is.
 #[repr(C)]
 #[derive(Clone, Copy)]
 pub struct Sheet {

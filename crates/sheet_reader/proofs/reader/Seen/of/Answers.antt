@@ -1,16 +1,10 @@
 -- `sheet_reader::reader::Seen::of` meets its contract.
 -- Assumes nothing.
 use Rattle.std.proofs.Common.{rules, ◌≡◌, sym, ◌∙◌}
-use Rattle.sheet_reader.proofs.Passes.{looked_start, looked_none, looked_feed, looked_other, looked_all, looked_ended}
+use Rattle.sheet_reader.proofs.Passes.{looked_none, looked_feed, looked_other, looked_all, looked_ended}
 use Rattle.sheet.specs.declared.Line.TheVariants.{Start}
 use Rattle.sheet_reader.proofs.reader.Seen.of.Goals as goal
 use Rattle.sheet_reader.proofs.reader.Seen.of.Goals.{then-byte-eq10, else-byte-eq10}
-
-pub loop-byte-init : goal.loop-byte-init
-loop-byte-init c = looked_start c.args.lines.now
-
-pub sample_of-requires : goal.sample_of-requires
-sample_of-requires c = c.loop-byte.invariant.small
 
 pub returns-in_err-line : goal.returns-in_err-line
 returns-in_err-line c =
