@@ -6,11 +6,13 @@ use mathlib.Core.List.{List, ◌∷◌}
 use Prim.Native.Nat.{ℕ, zero, suc, ◌-◌, ◌<◌, ◌≤◌}
 use native.Mathlib.Omega.{arith}
 use borrow.Author.Tests.{ne_eqb}
-use lib.ListN.{length, get_or, take, drop, length-drop, length-take, drop_of_length-le}
-use lib.Seq.{take_all, drop-cons}
-use Rattle.calls.specs.Refusals.{Test, first_of}
-use Rattle.calls.specs.Outcome.{Outcome, refused, accepted}
-use Rattle.calls.proofs.Refusals.{none-holds, first-behind, first-before, is-refused}
+use lib.ListN.{length, get_or, take, drop, length-take, drop_of_length-le}
+use lib.Seq.{drop-cons}
+use Rattle.std.specs.Prelude.{Ok, Err}
+use Rattle.calls.specs.declared.Refusal.{Refusal}
+use Rattle.calls.specs.Refusals.{number_of, Test, first_of}
+use Rattle.calls.specs.Outcome.{Outcome, as_answer, outcome, over, refused, accepted}
+use Rattle.calls.proofs.Refusals.{none-holds, first-behind, first-before, is-refused, numbered}
 use Rattle.calls.proofs.Answers.{Answered, answered}
 use Rattle.transmitter.specs.Calls.{most_characters}
 use Rattle.message.specs.Message.{message_of, samples_for, message_tests}
@@ -84,6 +86,24 @@ module _ (band : ℕ) (bytes : List ℕ) where
   unfolding sending_of
   sending_accepted e = rw e
 
+-- the answer of the call by which the sheet is made, and what it leaves in the buffer
+module _ (band : ℕ) (bytes lent now : List ℕ) where
+  pub sheet-ok : (n : ℕ) → outcome (as_answer (Ok n)) tt now ≡ sheet_call band bytes lent
+      → (n ≡ length (sending_of band bytes)) × (now ≡ over (sending_of band bytes) lent)
+  sheet-ok n e =
+      let w = sheet_answer band bytes lent _ e in
+      let given = w.given (sym w.told) in
+      let sent = sending_accepted band bytes (sym w.told) in (
+        ap (λ (o : Outcome Unit (List ℕ)). o.count) given ∙ ap length sent,
+        ap (λ (o : Outcome Unit (List ℕ)). o.lent) given ∙ ap (λ (l : List ℕ). over l lent) sent,
+      )
+
+  pub sheet-err : (r : Refusal) → outcome (as_answer (Err r)) tt now ≡ sheet_call band bytes lent
+      → (refusal_lines (number_of r) ≡ sending_of band bytes) × (now ≡ lent)
+  sheet-err r e =
+      let w = sheet_answer band bytes lent _ e in
+      (sending_refused band bytes (number_of r) w.told (numbered r), w.kept (λ z. numbered r (w.told ∙ z)))
+
 pub digit-first : (first : ℕ) (bytes : List ℕ) → is_digit first ≡ true → sending_of (first - 48) bytes ≡ modulated (first ∷ bytes)
 unfolding modulated
 digit-first first bytes d = rw d
@@ -105,12 +125,8 @@ module _ (input : List ℕ) where
     unfolding modulated
     input_other d = rw parts (rw d)
 
-    pub input_digit : is_digit first ≡ true → modulated input ≡ sending_of (first - 48) (take (length input - 1) (drop 1 input))
-    input_digit d =
-        sym
-        (ap (sending_of (first - 48)) (take_all (length input - 1) (drop 1 input) (omega (arith, length-drop 1 input)))
-        ∙ digit-first first (drop 1 input) d
-        ∙ ap modulated (sym parts))
+    pub input_digit : is_digit first ≡ true → modulated input ≡ sending_of (first - 48) (drop 1 input)
+    input_digit d = ap modulated parts ∙ sym (digit-first first (drop 1 input) d)
 
 -- ---- for the search of the check: the cases by the first byte, and that the lines of a refusal are the front of a buffer
 

@@ -3,12 +3,12 @@
 #![tactic(auto)]
 
 ghost use Rattle.std.specs.Prelude.{◌≡◌, length};
-ghost use Rattle.calls.specs.Outcome.{over, outcome};
+ghost use Rattle.calls.specs.Outcome.{as_answer, outcome, over};
 ghost use Rattle.sheet.specs.Calls.{most_bytes};
 ghost use Rattle.printing.specs.Printing.{Front};
 ghost use Rattle.modulator.specs.Modulate.{sheet_call, sending_of, modulated};
 
-use calls::Answer;
+use calls::Refusal;
 use printing::put_refusal;
 use sheet::MOST_BYTES;
 
@@ -26,14 +26,10 @@ pub fn modulate(input: &[u8], out: &mut [u8; MOST_BYTES]) -> usize
     ensures lent { out.new ≡ over (modulated input.now) out.old }
     ensures front { Front result out.new }
 {
-    if input.len() == 0 {
-        return put_refusal(out, 1);
+    match input.split_first() {
+        Some((&first, bytes)) if digits::is_digit(first) => put_sheet(first - b'0', bytes, out),
+        _ => put_refusal(out, Refusal::UnknownBand.into()),
     }
-    let first = input[0];
-    if !digits::is_digit(first) {
-        return put_refusal(out, 1);
-    }
-    put_sheet(first - 48, &input[1..], out)
 }
 
 // The sheet of a message or the lines of its refusal over the buffer's front, and their length.
@@ -42,24 +38,18 @@ fn put_sheet(band: u8, bytes: &[u8], out: &mut [u8]) -> usize
     ensures count { result ≡ length (sending_of band bytes.now) }
     ensures lent { out.new ≡ over (sending_of band bytes.now) out.old }
 {
-    let answer = write(band, bytes, out);
-    if answer.number != 0 {
-        return put_refusal(out, answer.number);
+    match write(band, bytes, out) {
+        Ok(count) => count,
+        Err(refusal) => put_refusal(out, refusal.into()),
     }
-    answer.count
 }
 
 // The sheet of a message at the buffer's front. What refuses the message or the sheet refuses the call.
-fn write(band: u8, bytes: &[u8], out: &mut [u8]) -> Answer
+fn write(band: u8, bytes: &[u8], out: &mut [u8]) -> Result<usize, Refusal>
     requires { length out.old ≡ most_bytes }
-    ensures { outcome result tt out.new ≡ sheet_call band bytes.now out.old }
+    ensures { outcome (as_answer result) tt out.new ≡ sheet_call band bytes.now out.old }
 {
     let mut samples = [0i16; MOST_SENT];
-    let sent = Answer::from(message::send(band, bytes, &mut samples));
-    let number = sent.number;
-    if number != 0 {
-        return Answer { number, count: 0 };
-    }
-    let n = sent.count;
-    sheet_writer::write(band, &samples[..n], out).into()
+    let count = message::send(band, bytes, &mut samples)?;
+    sheet_writer::write(band, &samples[..count], out)
 }

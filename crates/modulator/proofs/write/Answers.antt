@@ -1,13 +1,14 @@
--- `modulator::write` meets its contract: the number of the message, or else that of the sheet, is the call's.
+-- `modulator::write` meets its contract: the reason to refuse the message, or else that of the sheet, is the call's.
 -- Assumes nothing.
-use mathlib.Core.Path.{◌≡◌, sym, ap, ◌∙◌, subst}
+use mathlib.Core.Path.{◌≡◌, refl, sym, ap, ◌∙◌, subst}
 use mathlib.Core.List.{List}
 use Prim.Native.Nat.{ℕ}
 use lib.IntN.{ℤ, pos}
 use lib.ListN.{length, replicate, length-replicate}
-use Rattle.calls.specs.declared.Answer.{Answer}
+use Rattle.std.proofs.lemmas.Result.{err_from_is_err_and}
 use Rattle.calls.specs.Refusals.{first_of}
-use Rattle.calls.specs.Outcome.{Outcome, outcome, accepted}
+use Rattle.calls.specs.Outcome.{Outcome, accepted}
+use Rattle.calls.proofs.Refusals.{numbered}
 use Rattle.calls.proofs.Answers.{Answered, given-front, given_part, given_room}
 use Rattle.transmitter.specs.Calls.{most_characters}
 use Rattle.message.specs.Message.{message_of, samples_for, message_tests, send_of}
@@ -18,9 +19,6 @@ use Rattle.modulator.proofs.write.Goals as goal
 
 abbrev zeros : List ℤ
 zeros = replicate (samples_for most_characters) (pos 0)
-
-told : (now : List ℤ) {a b : Answer} {o : Outcome Unit (List ℤ)} → a ≡ b → outcome b tt now ≡ o → outcome a tt now ≡ o
-told now e s = ap (λ (a : Answer). outcome a tt now) e ∙ s
 
 module _ (band : ℕ) (bytes : List ℕ) (sent : Outcome Unit (List ℤ)) (e : sent ≡ send_of band bytes zeros) where
   sent-answer : Answered tt (message_of band bytes) zeros (first_of (message_tests band (length bytes) (samples_for most_characters))) sent
@@ -36,27 +34,28 @@ module _ (band : ℕ) (bytes : List ℕ) (sent : Outcome Unit (List ℤ)) (e : s
     given : sent ≡ accepted tt (message_of band bytes) zeros
     given = sent-answer.given none
 
-pub returns-then-number-ne0 : goal.returns-then-number-ne0
-returns-then-number-ne0 c =
+pub returns-in_err-count : goal.returns-in_err-count
+returns-in_err-count c =
     let a = c.args in
-    let s = sent-answer a.band a.bytes.now _ (told c.send.new.out c.from-sent.ensures c.send.ensures) in
-    sheet_refused a.band a.bytes.now a.out.now c.from-sent.result.number s.told c.if-number-ne0.true
+    let s = sent-answer a.band a.bytes.now _ c.in_err-count.ensures in
+    let p = err_from_is_err_and c.from_residual.result c.from_residual.ensures.1 in
+    rw (p.1, p.2) (sheet_refused a.band a.bytes.now a.out.now _ s.told (numbered c.in_err-count.field-0.0))
 
 pub slice_bounds-samples-end : goal.slice_bounds-samples-end
 slice_bounds-samples-end c =
     let a = c.args in
-    given_room tt (message_of a.band a.bytes.now) zeros _ (given a.band a.bytes.now _ (told c.send.new.out c.from-sent.ensures c.send.ensures) c.if-number-ne0.false)
+    given_room tt (message_of a.band a.bytes.now) zeros _ (given a.band a.bytes.now _ c.in_ok-count.ensures refl)
 
 pub slice_bounds-write-end : goal.slice_bounds-write-end
 slice_bounds-write-end c =
     let a = c.args in
-    given_part tt (message_of a.band a.bytes.now) zeros _ (given a.band a.bytes.now _ (told c.send.new.out c.from-sent.ensures c.send.ensures) c.if-number-ne0.false)
+    given_part tt (message_of a.band a.bytes.now) zeros _ (given a.band a.bytes.now _ c.in_ok-count.ensures refl)
 
 pub returns : goal.returns
 returns c =
     let a = c.args in
-    rw c.into.ensures
-    (c.write.ensures
+    let sent = c.in_ok-count.ensures in
+    c.write.ensures
     ∙ ap (λ (xs : List ℤ). write_of a.band xs a.out.now)
-    (given-front tt (message_of a.band a.bytes.now) zeros _ (given a.band a.bytes.now _ (told c.send.new.out c.from-sent.ensures c.send.ensures) c.if-number-ne0.false))
-    ∙ sheet_written a.band a.bytes.now a.out.now (none a.band a.bytes.now _ (told c.send.new.out c.from-sent.ensures c.send.ensures) c.if-number-ne0.false) c.requires)
+    (given-front tt (message_of a.band a.bytes.now) zeros _ (given a.band a.bytes.now _ sent refl))
+    ∙ sheet_written a.band a.bytes.now a.out.now (none a.band a.bytes.now _ sent refl) c.requires
