@@ -6,7 +6,8 @@ use Prim.Native.Nat.{ℕ, suc, ◌+◌, ◌<◌, ◌≤◌}
 use native.Mathlib.Numerals.{add-one}
 use lib.ListN.{length, get_or, drop, set, length-set, length-map, drop_of_length-le}
 use lib.Seq.{sets, length-sets, drop-cons}
-use Rattle.integers.proofs.Lists.{map_at, sets_append, sets-front, sets_out}
+use Rattle.std.proofs.lemmas.List.{get_or-map}
+use Rattle.integers.proofs.Lists.{sets_append, sets-front, sets_out}
 
 -- `lent` is to get the list `all` from the place `from` on; it is `now`, and `rest` is still to come from the place `at` on
 pub record Filling {A : Type 0} (lent : List A) (from : ℕ) (all now : List A) (at : ℕ) (rest : List A) : Type 0 where
@@ -48,7 +49,7 @@ module _ {A : Type 0} where
 module _ {A B : Type 0} {lent now : List B} {from at : ℕ} (f : A → B) (xs : List A) (i : ℕ) where
   pub mapped_next : {all : List B} (a : A) (d x : B) → i < length xs → x ≡ f (get_or xs i a) → Filling lent from all now at (drop i (map f xs))
       → Filling lent from all (set now at x) (at + 1) (drop (i + 1) (map f xs))
-  mapped_next a d x h e = filling_next (map f xs) i d x (rw (length-map xs f) h) (e ∙ sym (map_at f xs i a d h))
+  mapped_next a d x h e = filling_next (map f xs) i d x (rw (length-map xs f) h) (e ∙ sym (get_or-map f xs i a d h))
 
   pub mapped_end : length xs ≤ i → Filling lent from (map f xs) now at (drop i (map f xs)) → now ≡ sets lent from (map f xs)
   mapped_end h m = filling_end (rw (drop_of_length-le (map f xs) {i = i} (rw (length-map xs f) h)) at m)

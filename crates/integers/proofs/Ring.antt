@@ -2,7 +2,7 @@
 -- Assumes nothing.
 use mathlib.Core.Path.{◌≡◌, refl, sym, ap, ◌∙◌}
 use Prim.Native.Nat.{ℕ, zero, suc, ◌+◌, ◌-◌, ◌≤◌}
-use native.Mathlib.Nat.{mul-one, mul-zero}
+use native.Mathlib.Nat.{mul-one}
 use native.Mathlib.Omega.{arith}
 use lib.IntN.{ℤ, pos, negsuc, suc_ℤ, pred_ℤ, neg_ℤ, ◌+ℤ◌, ◌-ℤ◌, ◌*ℤ◌}
 use lib.IntN.{+ℤ_assoc, +ℤ_comm, +ℤ_idl, suc_ℤ-+ℤ, pred_ℤ-+ℤ, suc_ℤ-*ℤ, pred_ℤ-*ℤ, zero-*ℤ, neg_ℤ-neg_ℤ, pos-+ℤ-pos, +ℤ-neg_ℤ_cancel}
@@ -38,7 +38,7 @@ negℤ_*ℤ (pos (suc n)) (negsuc b) = rw neg_ℤ-neg_ℤ
 negℤ_*ℤ (negsuc n) (pos b) = rw neg_ℤ-neg_ℤ
 negℤ_*ℤ (negsuc n) (negsuc b) = refl
 
--- times 1, -1 and 0
+-- times 1 and -1
 pub *ℤ_one : (z : ℤ) → z *ℤ pos 1 ≡ z
 *ℤ_one (pos n) = rw mul-one
 *ℤ_one (negsuc n) = rw mul-one
@@ -46,10 +46,6 @@ pub *ℤ_one : (z : ℤ) → z *ℤ pos 1 ≡ z
 pub *ℤ_minus_one : (z : ℤ) → z *ℤ negsuc 0 ≡ neg_ℤ z
 *ℤ_minus_one (pos n) = rw mul-one
 *ℤ_minus_one (negsuc n) = rw mul-one
-
-pub *ℤ-zero : (z : ℤ) → z *ℤ pos 0 ≡ pos 0
-*ℤ-zero (pos n) = rw mul-zero
-*ℤ-zero (negsuc n) = rw mul-zero
 
 -- natural numbers, the smaller taken from the larger
 pub pos_-ℤ_pos : (a b : ℕ) → b ≤ a → pos a -ℤ pos b ≡ pos (a - b)

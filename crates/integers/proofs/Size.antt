@@ -2,14 +2,13 @@
 -- fits a signed width.
 -- Assumes nothing.
 use mathlib.Core.Path.{◌≡◌, refl, ap, ◌∙◌}
-use mathlib.Core.Bool.{true, false, true≢false}
 use Prim.Native.Nat.{ℕ, zero, suc, ◌+◌, ◌*◌, ◌^◌, ◌≤◌}
-use native.Mathlib.Nat.{zero-add, not-suc-le-zero, le_refl, le-suc, le_trans, lt_of_le_of_lt, mul-le-mul}
+use native.Mathlib.Nat.{le_refl, le-suc, le_trans, lt_of_le_of_lt, mul-le-mul}
 use native.Mathlib.Omega.{arith}
 use borrow.Author.Tests.{ltb-true, ltb-false}
 use lib.Dec.{T, ltb, ltb→lt}
 use lib.IntN.{ℤ, pos, negsuc, neg_ℤ, nat_abs, sub_ℕ, ◌+ℤ◌, ◌-ℤ◌, ◌*ℤ◌, +ℤ_comm, +ℤ-neg_ℤ_cancel, -ℤ-+ℤ_cancel}
-use lib.Signed.{mag, lt_z, non_neg}
+use lib.Signed.{mag}
 use mir.Syntax.{Width}
 use mir.Val.{SFits, hbits}
 use Rattle.integers.proofs.Tests.{cond-split}
@@ -18,15 +17,6 @@ pub nat_abs_negℤ : (z : ℤ) → nat_abs (neg_ℤ z) ≡ nat_abs z
 nat_abs_negℤ (pos zero) = refl
 nat_abs_negℤ (pos (suc n)) = refl
 nat_abs_negℤ (negsuc n) = refl
-
--- below 0 the difference from 0 is the size, elsewhere the number itself is
-pub negated : (z : ℤ) → lt_z z (pos 0) ≡ true → pos 0 -ℤ z ≡ pos (nat_abs z)
-negated (pos n) e = absurd (not-suc-le-zero (ltb-true n 0 e))
-negated (negsuc n) e = rw zero-add
-
-pub not_negative : (z : ℤ) → lt_z z (pos 0) ≡ false → T (non_neg z)
-not_negative (pos n) e = tt
-not_negative (negsuc n) e = absurd (true≢false e)
 
 nat_abs_subℕ : (a b : ℕ) → nat_abs (sub_ℕ a b) ≤ a + b
 nat_abs_subℕ a b =

@@ -10,7 +10,7 @@ use native.Mathlib.Omega.{arith}
 use borrow.Author.Tests.{eqb-true}
 use lib.Dec.{eqb}
 use lib.ListN.{length, get_or}
-use Rattle.integers.proofs.Lists.{map_at}
+use Rattle.std.proofs.lemmas.List.{get_or-map}
 use Rattle.integers.proofs.Tests.{passes_below, below_at}
 use Rattle.sine.specs.Sine.{S, half, nearest}
 use Rattle.tones.specs.declared.Tones.{Tones}
@@ -108,7 +108,7 @@ row : (k : ℕ) → k < length bands → ClearMargins (get_or bands k originate)
 unfolding sure_at
 row k h =
     let t : Tones = get_or bands k originate in
-    of_stride t (stride_of t) (sym (map_at row_sure bands k originate true h) ∙ below_at sure_at 9 all_sure_lem k (omega (arith, few-bands)))
+    of_stride t (stride_of t) (sym (get_or-map row_sure bands k originate true h) ∙ below_at sure_at 9 all_sure_lem k (omega (arith, few-bands)))
 
 -- a number that is no band has the first row's tones
 first-row : ClearMargins originate

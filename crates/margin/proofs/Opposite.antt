@@ -8,7 +8,8 @@ use Prim.Native.Nat.{ℕ, ◌+◌, ◌*◌, ◌%◌}
 use native.Mathlib.Omega.{arith}
 use lib.IntN.{ℤ, pos, neg_ℤ}
 use lib.ListN.{take, drop, replicate}
-use Rattle.integers.proofs.Lists.{map-take, map-drop, map-replicate}
+use Rattle.std.proofs.lemmas.List.{take-map, drop-map}
+use Rattle.integers.proofs.Lists.{map-replicate}
 use Rattle.integers.proofs.Sums.{dot-opposite-size}
 use Rattle.integers.proofs.Tests.{passes_below}
 use Rattle.sine.specs.Wave.{wave}
@@ -40,12 +41,12 @@ module _ (w : Weights) where
   across-opposite : (a b : Bool) (xs ys : List ℤ) → across_sure w a b (map neg_ℤ xs) (map neg_ℤ ys) ≡ across_sure w a b xs ys
   unfolding across_sure
   across-opposite a b xs ys i =
-      passes_below (λ k. window-opposite (read_sure w.clear a b k) (drop k xs) (take k ys) (map-drop neg_ℤ k xs) (map-take neg_ℤ k ys) i) 32
+      passes_below (λ k. window-opposite (read_sure w.clear a b k) (drop k xs) (take k ys) (sym (drop-map neg_ℤ k xs)) (sym (take-map neg_ℤ k ys)) i) 32
 
   silence-behind-opposite : (xs : List ℤ) → silence_behind_sure w (map neg_ℤ xs) ≡ silence_behind_sure w xs
   unfolding silence_behind_sure
   silence-behind-opposite xs i =
-      passes_below (λ k. window-opposite (wins_sure false) (drop k xs) (replicate k (pos 0)) (map-drop neg_ℤ k xs) (map-replicate neg_ℤ k (pos 0)) i) 16
+      passes_below (λ k. window-opposite (wins_sure false) (drop k xs) (replicate k (pos 0)) (sym (drop-map neg_ℤ k xs)) (map-replicate neg_ℤ k (pos 0)) i) 16
 
   module _ (t : Tones) (p : ℕ) where
     pair-opposite : (a : ℕ) (xs : List ℤ) (b : ℕ) → pair_sure w t (p + 960) a (map neg_ℤ xs) b ≡ pair_sure w t p a xs b

@@ -12,7 +12,8 @@ use lib.IntN.{ℤ}
 use lib.ListN.{length, take, drop, length-drop, length-map}
 use lib.Seq.{sets, take_all, take_at, drop-drop, take-append-add, drop-append-le, drop-append-add}
 use Rattle.integers.proofs.Tests.{lt_or_le}
-use Rattle.integers.proofs.Lists.{sets-front, drop-take, same_front}
+use Rattle.std.proofs.lemmas.List.{drop-take}
+use Rattle.integers.proofs.Lists.{sets-front, same_front}
 use Rattle.calls.specs.Outcome.{outcome, over, accepted_in}
 use Rattle.calls.proofs.Indexed.{indices}
 use Rattle.sine.specs.Wave.{weights_of}

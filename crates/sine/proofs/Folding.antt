@@ -8,12 +8,12 @@ use native.Mathlib.Nat.{mul-add, mul_assoc, mul-le-mul, mod-add-div', suc_inj}
 use native.Mathlib.Omega.{arith}
 use borrow.Author.Tests.{le-ltb, lt-ltb}
 use lib.Dec.{ltb}
-use lib.IntN.{ℤ, pos, negsuc, nat_abs, zero-*ℤ, ◌*ℤ◌}
+use lib.IntN.{ℤ, pos, negsuc, nat_abs, zero-*ℤ, *ℤ-zero, ◌*ℤ◌}
 use lib.ListN.{length, get_or}
 use mir.Syntax.{w16}
 use mir.Val.{Fits, SFits}
 use Rattle.integers.specs.Sums.{Bounded}
-use Rattle.integers.proofs.Ring.{*ℤ_one, *ℤ_minus_one, *ℤ-zero}
+use Rattle.integers.proofs.Ring.{*ℤ_one, *ℤ_minus_one}
 use Rattle.integers.proofs.Size.{fits_size}
 use Rattle.integers.proofs.Sums.{bounded_none, bounded_more}
 use Rattle.integers.proofs.Tests.{lt_or_le, cond_case}
