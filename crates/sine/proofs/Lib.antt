@@ -1,5 +1,6 @@
 mod Quarter
 pub mod Laws
+mod Filled
 mod Folding
 pub mod Rule
 pub mod Wave

@@ -1,18 +1,17 @@
--- Laws of `weights_of`: its length, the size of its entries, its 128 phases, and its four parts.
+-- Laws of `weights_of`: its length, the size of its entries, how it is stored, and its four parts.
 -- Assumes nothing.
 use mathlib.Core.Path.{◌≡◌, refl, sym, ◌∙◌, ap}
-use mathlib.Core.List.{List, ◌++◌, append_assoc, map, map-append}
+use mathlib.Core.List.{List, ◌++◌, append_assoc}
 use Prim.Native.Nat.{ℕ, ◌+◌}
 use native.Mathlib.Omega.{arith}
 use lib.IntN.{ℤ}
-use lib.ListN.{length, take, drop, length-append, length-map}
+use lib.ListN.{length, take, drop, length-append}
 use lib.Seq.{sets, take_at, take_all, drop-append-add}
 use Rattle.integers.specs.Sums.{Bounded}
 use Rattle.integers.proofs.Sums.{bounded_append}
 use Rattle.integers.proofs.Lists.{sets_append, sets-whole}
-use Rattle.sine.specs.Sine.{S}
-use Rattle.sine.specs.Wave.{phases, wave, quadrature_of, weights_of}
-use Rattle.sine.proofs.Wave.{length-wave, wave_bound, length-phases, map-phases}
+use Rattle.sine.specs.Wave.{wave, quadrature_of, weights_of}
+use Rattle.sine.proofs.Wave.{length-wave, wave_bound}
 
 -- they are four waves, one behind the other
 in_order : (a b : ℕ) → weights_of a b ≡ wave 32 a 480 ++ (wave 32 a 0 ++ (wave 32 b 480 ++ wave 32 b 0))
@@ -35,50 +34,17 @@ pub weights_bound : (a b : ℕ) → Bounded 6000 (weights_of a b)
 unfolding weights_of
 weights_bound a b = bounded_append _ _ (quadrature_bound a) (quadrature_bound b)
 
--- ---- the weights as the sines of their 128 phases
+-- ---- the weights as four waves that are stored one behind the other, over a list of 128
 
-abbrev pub bank : ℕ → ℕ → List ℕ
-bank a b = phases 32 a 480 ++ (phases 32 a 0 ++ (phases 32 b 480 ++ phases 32 b 0))
+behind_wave : (s p : ℕ) (l : List ℤ) (i : ℕ) (ws : List ℤ) → sets l i (wave 32 s p ++ ws) ≡ sets (sets l i (wave 32 s p)) (i + 32) ws
+behind_wave s p l i ws = rw (length-wave 32 s p) at (sets_append l i (wave 32 s p) ws)
 
-pub length-bank : (a b : ℕ) → length (bank a b) ≡ 128
-length-bank a b =
-    rw (
-      length-append (phases 32 a 480) (phases 32 a 0 ++ (phases 32 b 480 ++ phases 32 b 0)),
-      length-append (phases 32 a 0) (phases 32 b 480 ++ phases 32 b 0),
-      length-append (phases 32 b 480) (phases 32 b 0),
-      length-phases 32 a 480,
-      length-phases 32 a 0,
-      length-phases 32 b 480,
-      length-phases 32 b 0,
-    ) refl
-
--- numbers of the 128 phases that are stored one part behind the other, over a list l of 128
-module _ {B : Type 0} (f : ℕ → B) where
-  abbrev part : ℕ → ℕ → List B
-  part s p = map f (phases 32 s p)
-
-  length_part : (s p : ℕ) → length (part s p) ≡ 32
-  length_part s p = length-map (phases 32 s p) f ∙ length-phases 32 s p
-
-  behind_part : (s p : ℕ) (l : List B) (i : ℕ) (ys : List B) → sets l i (part s p ++ ys) ≡ sets (sets l i (part s p)) (i + 32) ys
-  behind_part s p l i ys = rw (length_part s p) at (sets_append l i (part s p) ys)
-
-  in_parts : (a b : ℕ) → map f (bank a b) ≡ part a 480 ++ (part a 0 ++ (part b 480 ++ part b 0))
-  in_parts a b =
-      map-append f (phases 32 a 480) (phases 32 a 0 ++ (phases 32 b 480 ++ phases 32 b 0))
-      ∙ ap (λ (xs : List B). part a 480 ++ xs)
-      (map-append f (phases 32 a 0) (phases 32 b 480 ++ phases 32 b 0)
-      ∙ ap (λ (xs : List B). part a 0 ++ xs) (map-append f (phases 32 b 480) (phases 32 b 0)))
-
-  pub stored : (l : List B) {m₁ m₂ m₃ m₄ : List B} (a b : ℕ) → length l ≡ 128 → m₁ ≡ sets l 0 (part a 480) → m₂ ≡ sets m₁ 32 (part a 0)
-      → m₃ ≡ sets m₂ 64 (part b 480) → m₄ ≡ sets m₃ 96 (part b 0) → m₄ ≡ map f (bank a b)
-  stored l a b e e₁ e₂ e₃ e₄ =
-      e₄ ∙ ap (λ (m : List B). sets m 96 (part b 0)) (e₃ ∙ ap (λ (m : List B). sets m 64 (part b 480)) (e₂ ∙ ap (λ (m : List B). sets m 32 (part a 0)) e₁))
-      ∙ sym (ap (sets l 0) (in_parts a b) ∙ behind_part a 480 l 0 _ ∙ behind_part a 0 _ 32 _ ∙ behind_part b 480 _ 64 _)
-      ∙ sets-whole (map f (bank a b)) l (length-map (bank a b) f ∙ length-bank a b ∙ sym e)
-
-pub map-bank : (a b : ℕ) → map S (bank a b) ≡ weights_of a b
-map-bank a b = in_parts S a b ∙ rw (map-phases 32 a 480, map-phases 32 a 0, map-phases 32 b 480, map-phases 32 b 0) (sym (in_order a b))
+pub weights_stored : (l : List ℤ) {m₁ m₂ m₃ m₄ : List ℤ} (a b : ℕ) → length l ≡ 128 → m₁ ≡ sets l 0 (wave 32 a 480) → m₂ ≡ sets m₁ 32 (wave 32 a 0)
+    → m₃ ≡ sets m₂ 64 (wave 32 b 480) → m₄ ≡ sets m₃ 96 (wave 32 b 0) → m₄ ≡ weights_of a b
+weights_stored l a b e e₁ e₂ e₃ e₄ =
+    e₄ ∙ ap (λ (m : List ℤ). sets m 96 (wave 32 b 0)) (e₃ ∙ ap (λ (m : List ℤ). sets m 64 (wave 32 b 480)) (e₂ ∙ ap (λ (m : List ℤ). sets m 32 (wave 32 a 0)) e₁))
+    ∙ sym (ap (sets l 0) (in_order a b) ∙ behind_wave a 480 l 0 _ ∙ behind_wave a 0 _ 32 _ ∙ behind_wave b 480 _ 64 _)
+    ∙ sets-whole (weights_of a b) l (length_weights a b ∙ sym e)
 
 -- ---- the four parts
 

@@ -71,3 +71,12 @@ unfolding phases
 phases-at zero s p j h = absurd (not-suc-le-zero h)
 phases-at (suc n) s p zero h = omega arith
 phases-at (suc n) s p (suc j) h = phases-at n s (p + s) j (le_of_suc-le-suc h) ∙ omega (arith, suc-mul j s)
+
+-- a step and a phase may be taken modulo 1,920
+step_reduced : (n s p : ℕ) → wave n (s % 1920) p ≡ wave n s p
+unfolding wave
+step_reduced zero s p = refl
+step_reduced (suc n) s p = ap (λ (xs : List ℤ). S p ∷ xs) (step_reduced n s (p + s % 1920) ∙ wave_same n s (p + s % 1920) (p + s) (omega arith))
+
+pub wave_reduced : (n s p : ℕ) → wave n (s % 1920) (p % 1920) ≡ wave n s p
+wave_reduced n s p = step_reduced n s (p % 1920) ∙ wave_same n s (p % 1920) p (omega arith)

@@ -1,7 +1,7 @@
 -- How the code reads S from a table of its first quarter: a phase is folded to a place of the table and a sign. The definitions are ours, after
 -- the specification's S(960 - p) = S(p) and S(p + 960) = -S(p).
 -- Assumes nothing.
-use Rattle.std.specs.Prelude.{◌≡◌, cond, List, [], ◌∷◌, ℕ, ◌-◌, ◌%◌, ◌≤◌, min, ltb, ℤ, pos, negsuc, ◌*ℤ◌, get_or}
+use Rattle.std.specs.Prelude.{◌≡◌, cond, List, ℕ, ◌-◌, ◌%◌, ◌≤◌, min, ltb, ℤ, pos, negsuc, get_or}
 use Rattle.sine.specs.Sine.{S}
 
 -- the phase from 0 to 480 with the same sine, signs aside
@@ -19,9 +19,3 @@ pub record HoldsQuarter (xs : List ℤ) : Type 0 where
 -- places that such a list has
 pub record InQuarter (places : List ℕ) : Type 0 where
   pub at : (k : ℕ) → get_or places k 0 ≤ 480
-
--- each number times the sign at its place
-unfoldable pub times : List ℤ → List ℤ → List ℤ
-times [] signs = []
-times (x ∷ xs) [] = []
-times (x ∷ xs) (s ∷ signs) = (x *ℤ s) ∷ times xs signs

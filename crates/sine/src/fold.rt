@@ -1,43 +1,80 @@
-// Phases folded into the first quarter: for each the place in the table, and the sign.
-ghost use Rattle.std.specs.Prelude.{◌≡◌, map, ◌+◌, ◌≤◌, length};
-ghost use Rattle.std.proofs.lemmas.List.Edits.{sets};
-ghost use Rattle.sine.specs.Wave.{phases};
-ghost use Rattle.sine.specs.Fold.{place_of, sign_of};
+// Sines of 32 phases at once. A phase is folded into the first quarter, to a place of the table and a sign; the number there is looked up,
+// and gets its sign.
+//
+// Each of the three has a loop of its own: a machine folds eight phases at once, or gives eight signs, which one loop for all would prevent.
+ghost use Rattle.std.specs.Prelude.{◌≡◌, map, ◌%◌};
+ghost use Rattle.sine.specs.Sine.{S};
+ghost use Rattle.sine.specs.Wave.{phases, wave};
+ghost use Rattle.sine.specs.Fold.{HoldsQuarter, InQuarter, place_of, sign_of};
 
-// S of the phase is the table's number at `place` times `sign`.
-#[derive(Clone, Copy)]
-struct Folded {
-    place: u16,
-    sign: i16,
-}
-
-fn fold(phase: u16) -> Folded
-    ensures { (result.place ≡ place_of phase) × (result.sign ≡ sign_of phase) }
+// The sines of 32 phases, a step apart.
+pub(crate) fn sines(quarter: &[i16; 481], step: u16, phase: u16) -> [i16; 32]
+    requires { HoldsQuarter quarter.now }
+    ensures { result ≡ wave 32 step phase }
 {
-    let ahead = phase % 960;
-    let left = 960 - ahead;
-    Folded {
-        place: if ahead < left { ahead } else { left },
-        sign: if phase / 960 % 2 == 0 { 1 } else { -1 },
-    }
+    let phases = phases(step, phase);
+    let found = look_up(quarter, &places(&phases));
+    signed(&found, &phases)
 }
 
-// Folds 32 phases, a step apart, and puts what it finds into the two lists from the place `at` on. Taken modulo 1,920, phase and
-// step give no number above 65,535, and eight 16-bit numbers are folded at once.
-pub(crate) fn put_folded(places: &mut [u16], signs: &mut [i16], at: usize, step: u16, phase: u16)
-    requires { (at + 32 ≤ length places.old) × (at + 32 ≤ length signs.old) }
-    ensures places { places.new ≡ sets places.old at (map place_of (phases 32 step phase)) }
-    ensures signs { signs.new ≡ sets signs.old at (map sign_of (phases 32 step phase)) }
+// Taken modulo 1,920, phase and step give no number above 65,535.
+fn phases(step: u16, phase: u16) -> [u16; 32]
+    ensures { result ≡ phases 32 (step % 1920) (phase % 1920) }
 {
     let first = phase % 1920;
     let ahead = step % 1920;
-    let mut j: u16 = 0;
-    while j < 32 {
-        let f = fold(first + j * ahead);
-        let k = at + j as usize;
-        let sign = f.sign;
-        places[k] = f.place;
-        signs[k] = sign;
-        j += 1;
+    let mut phases = [0; 32];
+    for j in 0..32 {
+        phases[j as usize] = first + j * ahead;
     }
+    phases
+}
+
+fn places(phases: &[u16; 32]) -> [u16; 32]
+    ensures { result ≡ map place_of phases.now }
+{
+    let mut places = [0; 32];
+    for (j, phase) in phases.iter().enumerate() {
+        places[j] = place_of(*phase);
+    }
+    places
+}
+
+fn look_up(quarter: &[i16; 481], places: &[u16; 32]) -> [i16; 32]
+    requires holds_quarter { HoldsQuarter quarter.now }
+    requires in_quarter { InQuarter places.now }
+    ensures { result ≡ map S places.now }
+{
+    let mut found = [0; 32];
+    for (j, place) in places.iter().enumerate() {
+        found[j] = quarter[*place as usize];
+    }
+    found
+}
+
+fn signed(found: &[i16; 32], phases: &[u16; 32]) -> [i16; 32]
+    requires { found.now ≡ map S (map place_of phases.now) }
+    ensures { result ≡ map S phases.now }
+{
+    let mut sines = [0; 32];
+    for (j, phase) in phases.iter().enumerate() {
+        sines[j] = found[j] * sign_of(*phase);
+    }
+    sines
+}
+
+#[tactic(auto, unfolding(crate::specs::Fold::place_of))]
+fn place_of(phase: u16) -> u16
+    ensures { result ≡ place_of phase }
+{
+    let ahead = phase % 960;
+    let left = 960 - ahead;
+    ahead.min(left)
+}
+
+#[tactic(auto, unfolding(crate::specs::Fold::sign_of))]
+fn sign_of(phase: u16) -> i16
+    ensures { result ≡ sign_of phase }
+{
+    if phase / 960 % 2 == 0 { 1 } else { -1 }
 }

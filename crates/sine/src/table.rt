@@ -1,7 +1,7 @@
 // The sine in its first quarter, S(0) to S(480).
 ghost use Rattle.sine.specs.Fold.{HoldsQuarter};
 
-const SINE: [i16; 481] = [
+static SINE: [i16; 481] = [
     0, // phase 0
     20, 39, 59, 79, 98, 118, 137, 157, 177, 196, 216, 236, 255, 275, 294, 314, 334, 353, 373, 392,
     412, 432, 451, 471, 490, 510, 529, 549, 569, 588, 608, 627, 647, 666, 686, 705, 725, 744, 764,
@@ -37,10 +37,9 @@ const SINE: [i16; 481] = [
     5996, 5997, 5997, 5998, 5998, 5999, 5999, 5999, 6000, 6000, 6000, 6000, // phase 480
 ];
 
-// The one use of the table, and the one test of its rule. Each call copies the whole table, so users take 32 samples at a
-// time, by `tone`, or 128 weights, by `weights`.
-pub(crate) fn quarter() -> [i16; 481]
-    ensures { HoldsQuarter result }
+// The one use of the table, and the one test of its rule.
+pub(crate) fn quarter() -> &'static [i16; 481]
+    ensures { HoldsQuarter result.now }
 {
-    SINE
+    &SINE
 }
