@@ -55,10 +55,10 @@ decimal_digit n d g h =
 
 -- ---- how many digits
 
-length-small : (n : ℕ) → n < 10 → length (decimal n) ≡ 1
+pub length-small : (n : ℕ) → n < 10 → length (decimal n) ≡ 1
 length-small n h = ap length (decimal-small n h)
 
-length_more : (n : ℕ) → 10 ≤ n → length (decimal n) ≡ length (decimal (n / 10)) + 1
+pub length_more : (n : ℕ) → 10 ≤ n → length (decimal n) ≡ length (decimal (n / 10)) + 1
 length_more n h = ap length (decimal-more n h) ∙ length-append (decimal (n / 10)) ((48 + n % 10) ∷ [])
 
 -- a number below 10, 100, 1000 .. has at most 1, 2, 3 .. digits
@@ -68,12 +68,12 @@ length-decimal (suc k) n h =
     let e = length-decimal k (n / 10) (omega (arith, pow-succ' 10 (suc k))) in
     lt_or_le n 10 (λ l. omega (arith, length-small n l)) (λ l. omega (arith, length_more n l))
 
--- a tenth of a number of 16 bits
-pub few_digits : (n : ℕ) → n < 65536 → length (decimal (n / 10)) < 5
-few_digits n h = omega (arith, length-decimal 3 (n / 10) (omega arith))
+-- a number of 16 bits
+pub five_digits : (n : ℕ) → n < 65536 → length (decimal n) ≤ 5
+five_digits n h = length-decimal 4 n (omega arith)
 
--- for the search of the check: the digits of a tenth and one more, of which there are at most five
-pub ruleset by_tenth = (decimal-small, decimal-more, few_digits)
+-- for the search of the check: the digits of a tenth and one more
+pub ruleset by_tenth = (decimal-small, decimal-more, length-small, length_more)
 
 -- ---- hexadecimal
 
