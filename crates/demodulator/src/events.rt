@@ -5,17 +5,17 @@ ghost use Rattle.tones.specs.Samples.{most_samples, are_samples};
 ghost use Rattle.receiver.specs.Step.{events_after};
 ghost use Rattle.receiver.specs.Calls.{fresh};
 ghost use Rattle.calls.specs.Outcome.{over};
-ghost use Rattle.demodulator.specs.Lines.{most_printed, events_text};
+ghost use Rattle.demodulator.specs.Lines.{events_text};
 
+use crate::MOST_PRINTED;
 use crate::lines::put_events;
 use receiver::Receiver;
 
 // The lines of the samples' events over the buffer's front, and their length.
-pub(crate) fn put_events_of(band: u8, samples: &[i16], out: &mut [u8]) -> usize
+pub(crate) fn put_events_of(band: u8, samples: &[i16], out: &mut [u8; MOST_PRINTED]) -> usize
     requires band { is_band band ≡ true }
     requires few { length samples.now ≤ most_samples }
     requires sound { are_samples samples.now ≡ true }
-    requires room { most_printed ≤ length out.old }
     ensures count { result ≡ length (events_text (events_after (fresh band) samples.now)) }
     ensures lent { out.new ≡ over (events_text (events_after (fresh band) samples.now)) out.old }
 {

@@ -4,17 +4,17 @@ ghost use Rattle.integers.specs.All.{All};
 ghost use Rattle.calls.specs.Outcome.{over};
 ghost use Rattle.control.specs.Rules.{is_event, event_number};
 ghost use Rattle.receiver.specs.Calls.{most_events};
-ghost use Rattle.demodulator.specs.Lines.{most_printed, kind_of, value_of, event_line, events_text};
+ghost use Rattle.demodulator.specs.Lines.{kind_of, value_of, event_line, events_text};
 
+use crate::MOST_PRINTED;
 use arrayvec::ArrayVec;
 use control::Event;
 
 // The names line and a line for each event, given by its number, over the buffer's front, and their length.
 #[tactic(auto, using(crate::proofs::Printed::by_lines))]
-pub(crate) fn put_events(out: &mut [u8], events: &[u16]) -> usize
+pub(crate) fn put_events(out: &mut [u8; MOST_PRINTED], events: &[u16]) -> usize
     requires few { length events.now ≤ most_events }
     requires known { All (λ event. is_event event ≡ true) events.now }
-    requires room { most_printed ≤ length out.old }
     ensures count { result ≡ length (events_text events.now) }
     ensures lent { out.new ≡ over (events_text events.now) out.old }
 {

@@ -4,7 +4,6 @@
 
 ghost use Rattle.std.specs.Prelude.{◌≡◌, length};
 ghost use Rattle.calls.specs.Outcome.{as_answer, outcome, over};
-ghost use Rattle.sheet.specs.Calls.{most_bytes};
 ghost use Rattle.printing.specs.Printing.{Front};
 ghost use Rattle.modulator.specs.Modulate.{sheet_call, sending_of, modulated};
 
@@ -33,8 +32,7 @@ pub fn modulate(input: &[u8], out: &mut [u8; MOST_BYTES]) -> usize
 }
 
 // The sheet of a message or the lines of its refusal over the buffer's front, and their length.
-fn put_sheet(band: u8, bytes: &[u8], out: &mut [u8]) -> usize
-    requires { length out.old ≡ most_bytes }
+fn put_sheet(band: u8, bytes: &[u8], out: &mut [u8; MOST_BYTES]) -> usize
     ensures count { result ≡ length (sending_of band bytes.now) }
     ensures lent { out.new ≡ over (sending_of band bytes.now) out.old }
 {
@@ -45,8 +43,7 @@ fn put_sheet(band: u8, bytes: &[u8], out: &mut [u8]) -> usize
 }
 
 // The sheet of a message at the buffer's front. What refuses the message or the sheet refuses the call.
-fn write(band: u8, bytes: &[u8], out: &mut [u8]) -> Result<usize, Refusal>
-    requires { length out.old ≡ most_bytes }
+fn write(band: u8, bytes: &[u8], out: &mut [u8; MOST_BYTES]) -> Result<usize, Refusal>
     ensures { outcome (as_answer result) tt out.new ≡ sheet_call band bytes.now out.old }
 {
     let mut samples = [0i16; MOST_SENT];

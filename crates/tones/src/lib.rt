@@ -6,7 +6,7 @@ ghost use Rattle.tones.specs.Bands.{row, is_band, is_pair, tones_of};
 ghost use Rattle.tones.specs.Samples.{is_between, are_between, are_samples};
 
 // The steps of the two tones. Neither is taken to be the larger.
-#[derive(Clone, Copy)]
+#[derive(Clone, Copy, Debug, PartialEq, Eq)]
 pub struct Tones {
     pub space: u16,
     pub mark: u16,

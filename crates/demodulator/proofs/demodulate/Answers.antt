@@ -76,9 +76,8 @@ put_events_of-requires c =
     let t = c.args.text.now in
     let r = c.in-Ok.ensures in
     let a = all t _ r refl in
-    let l : length c.args.out.now ≡ most_printed = search rules in
     rw (band_read t _ r refl, front t _ r refl)
-    (record { band = a.band; few = a.few; sound = a.sound; room = omega (arith, l) })
+    (record { band = a.band; few = a.few; sound = a.sound })
 
 pub returns-in-Ok : goal.returns-in-Ok
 returns-in-Ok c =

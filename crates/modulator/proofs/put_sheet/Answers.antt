@@ -3,7 +3,6 @@
 use mathlib.Core.Path.{ap, ◌∙◌}
 use mathlib.Core.List.{List}
 use Prim.Native.Nat.{ℕ}
-use native.Mathlib.Omega.{arith}
 use borrow.Author.Rules.{rules}
 use lib.ListN.{length}
 use lib.Seq.{sets}
@@ -25,7 +24,7 @@ returns-in-Err c =
     let w = sheet-err a.band a.bytes.now a.out.now c.write.new.out c.in-Err.refusal c.in-Err.ensures in
     let p = c.put_refusal.ensures in
     let text = ap refusal_lines c.into.ensures ∙ w.0 in
-    let room = refusal-over c.into.result a.out.now (search rules) (omega (arith, c.requires)) in
+    let room = refusal-over c.into.result a.out.now (search rules) (search rules) in
     record {
       count = p.count ∙ ap length text;
       lent = p.lent ∙ ap (λ (l : List ℕ). sets l 0 (refusal_lines c.into.result)) w.1 ∙ room ∙ ap (λ (l : List ℕ). over l a.out.now) text;

@@ -3,6 +3,7 @@
 use mathlib.Core.Path.{◌≡◌, refl, sym, ap, ◌∙◌, subst}
 use mathlib.Core.List.{List}
 use Prim.Native.Nat.{ℕ}
+use borrow.Author.Rules.{rules}
 use lib.IntN.{ℤ, pos}
 use lib.ListN.{length, replicate, length-replicate}
 use Rattle.std.proofs.lemmas.Result.{err_from_is_err_and}
@@ -58,4 +59,4 @@ returns c =
     c.write.ensures
     ∙ ap (λ (xs : List ℤ). write_of a.band xs a.out.now)
     (given-front tt (message_of a.band a.bytes.now) zeros _ (given a.band a.bytes.now _ sent refl))
-    ∙ sheet_written a.band a.bytes.now a.out.now (none a.band a.bytes.now _ sent refl) c.requires
+    ∙ sheet_written a.band a.bytes.now a.out.now (none a.band a.bytes.now _ sent refl) (search rules)

@@ -83,7 +83,6 @@ put_events-requires c =
     record {
       few = omega (arith, l, r, p);
       known = subst (All (λ event. is_event event ≡ true)) (sym f) (events-known (fresh a.band) a.samples.now (fresh_kept a.band q.band));
-      room = q.room;
     }
 
 pub returns : goal.returns

@@ -4,11 +4,12 @@ use mathlib.Core.Path.{◌≡◌, sym, ap, ap₂, ◌∙◌, subst}
 use mathlib.Core.List.{List}
 use Prim.Native.Nat.{ℕ}
 use native.Mathlib.Omega.{arith}
+use borrow.Author.Rules.{rules}
 use lib.ListN.{length, get_or, length-append}
 use lib.Seq.{sets, take_all}
 use Rattle.integers.proofs.Lists.{sets-front}
 use Rattle.control.specs.Rules.{event_number, HasNumber}
-use Rattle.demodulator.specs.Lines.{event_line, events_text}
+use Rattle.demodulator.specs.Lines.{event_line, events_text, most_printed}
 use Rattle.demodulator.proofs.Printed.{text_before, text-most, before_none, before_more, put_more}
 use Rattle.demodulator.proofs.lines.put_events.Goals as goal
 
@@ -41,6 +42,7 @@ returns-clause-lent c =
     let events = c.args.events.now in
     let all = ap events_text (take_all l.place events c.loop-place-test.false) in
     let most = text-most events c.requires.few in
+    let room : length c.args.out.now ≡ most_printed = search rules in
     l.invariant.filled
     ∙ ap (sets c.args.out.now 0) all
-    ∙ sets-front (events_text events) c.args.out.now (omega (arith, most, c.requires.room))
+    ∙ sets-front (events_text events) c.args.out.now (omega (arith, most, room))
