@@ -48,7 +48,7 @@ fn are_close(most: i64, least: i64) -> bool
     requires { le_z least most ≡ true }
     ensures { result ≡ lt_z (pos 4 *ℤ most) (pos 5 *ℤ least) }
 {
-    0 < least && near(most.unsigned_abs(), least.unsigned_abs())
+    0 < least && near(most.cast_unsigned(), least.cast_unsigned())
 }
 
 // The same without products, which 64 bits might not hold: the difference is less than a quarter of the smaller, rounded up.
