@@ -1,18 +1,16 @@
 -- From run and stage in their ranges every number that is reported is an event, as `is_event` has them, and a break and a doubtful bit are
 -- reported in one case alone.
 -- Assumes nothing.
-use mathlib.Core.Path.{◌≡◌, refl, ap}
+use mathlib.Core.Path.{◌≡◌, refl}
 use mathlib.Core.Bool.{true}
 use mathlib.Core.List.{List, [], ◌∷◌}
-use Prim.Native.Nat.{ℕ, ◌-◌, ◌^◌, ◌<◌, ◌≤◌}
-use native.Mathlib.Omega.{arith}
+use Prim.Native.Nat.{ℕ, ◌-◌, ◌<◌, ◌≤◌}
 use borrow.Author.Tests.{lt-ltb, ltb-true, eqb-true}
 use lib.Dec.{ltb, eqb}
-use lib.ListN.{length, get_or}
-use lib.Pow.{pow_mono}
+use Rattle.std.proofs.Common.{rules}
 use Rattle.integers.specs.All.{All, none, more}
 use Rattle.integers.proofs.All.{all_append}
-use Rattle.integers.proofs.Tests.{cond_case, cond-split, or_case}
+use Rattle.integers.proofs.Tests.{cond_case, or_case}
 use Rattle.calls.specs.Runs.{gives}
 use Rattle.control.specs.declared.Bit.TheVariants.{Space, Doubtful}
 use Rattle.control.specs.declared.Decision.{Decision}
@@ -24,8 +22,7 @@ use Rattle.control.specs.declared.Stage.TheVariants.{Searching, Waiting, Held}
 use Rattle.control.specs.declared.Control.{Control}
 use Rattle.control.specs.Ranges.{is_slot, is_stage, is_control}
 use Rattle.control.specs.Rules.{no_stop, carrier_lost, break_begun, bit_doubtful, is_event, event_number, numbers, run_after, taken, next_of, moved_by, control_after, reported, reports}
-use Rattle.control.proofs.Rules.{taken_case}
-use Rattle.control.proofs.Ranges.{wait_low, slot-most, slot_below, stage_wait, stage-slot, control_stage, control_kept}
+use Rattle.control.proofs.Ranges.{stage-slot, control_stage, control_kept}
 
 -- ---- the events
 
@@ -62,25 +59,12 @@ Tells n = Known (numbers n.event)
 
 -- a byte is one, behind slot 9 too
 byte-below : (slot byte : ℕ) → (slot ≡ 0 → ⊥) → is_slot slot byte ≡ true → byte < 256
-byte-below slot byte nz h =
-    let nine : slot ≤ 9 = slot-most slot byte h in
-    let most : 2 ^ (slot - 1) ≤ 256 = pow_mono {i = slot - 1} {j = 8} (omega arith) in
-    omega (arith, slot_below slot byte nz h, most)
+unfolding is_slot
+byte-below slot byte nz h = search rules
 
 taken-known : (slot byte : ℕ) (d : Decision) → is_slot slot byte ≡ true → Tells (taken slot byte d)
-unfolding is_event
-taken-known slot byte d h =
-    taken_case Tells slot byte d
-    (record {
-      start = λ z. none;
-      no_start = λ z. none;
-      level_lost = λ nz. more refl none;
-      bit = λ nz l bit b. none;
-      doubt = λ nz g e. more refl none;
-      break = λ l g e z. more refl none;
-      no_stop_told = λ l. more refl none;
-      character = λ l. more (byte-known byte (byte-below slot byte (λ z. omega arith) h)) none;
-    })
+unfolding is_event taken
+taken-known slot byte d h = search (rules, byte-known, byte-below, none, more)
 
 next_known : (stage : Stage) (run : ℕ) (d : Decision) → is_stage stage ≡ true → Tells (next_of stage run d)
 unfolding next_of
@@ -100,49 +84,13 @@ reports-known c (d ∷ ds) h = all_append (reported-known c d h) (reports-known 
 
 -- ---- what tells a break, and what tells a doubtful bit
 
--- nothing is told, or another number
-not-told : (n : ℕ) {G : Type 0} → [] ≡ n ∷ [] → G
-not-told n e = absurd (omega (arith, ap length e))
-
-other_told : (n m : ℕ) {G : Type 0} → (m ≡ n → ⊥) → m ∷ [] ≡ n ∷ [] → G
-other_told n m h e = absurd (h (ap (λ (l : List ℕ). get_or l 0 0) e))
-
--- A wait is over, and at its slot G holds wherever the number n is told: so it does at any stage.
-module _ (n : ℕ) (G : Stage → Type 0) (d : Decision)
-    (at_slot : (slot byte : ℕ) → is_slot slot byte ≡ true → numbers (taken slot byte d).event ≡ n ∷ [] → G (Waiting 1 slot byte)) where
-  told-only : (stage : Stage) (run : ℕ) → is_stage stage ≡ true → numbers (next_of stage run d).event ≡ n ∷ [] → G stage
-  unfolding next_of
-  told-only Searching run h e = not-told n e
-  told-only Held run h e = not-told n e
-  told-only (Waiting wait slot byte) run h e =
-      cond-split (λ (x : Next). numbers x.event ≡ n ∷ [] → G (Waiting wait slot byte)) (eqb (wait - 1) 0) _ _
-      (λ z told.
-      let o : wait - 1 ≡ 0 = eqb-true (wait - 1) 0 z in
-      let one : wait ≡ 1 = omega (arith, wait_low wait slot (stage_wait wait slot byte h)) in
-      rw one (at_slot slot byte (stage-slot wait slot byte h) told))
-      (λ z. not-told n) e
-
 -- a break: at the stop slot, with the byte 0, a good level and the bit space
 pub break-only : (stage : Stage) (run : ℕ) (d : Decision) → is_stage stage ≡ true → numbers (next_of stage run d).event ≡ break_begun ∷ []
     → (stage ≡ Waiting 1 9 0) × (d.good ≡ true) × (d.bit ≡ Space)
-break-only stage run d = told-only break_begun Told d at_slot stage run
-  where
-    Told : Stage → Type 0
-    Told stage = (stage ≡ Waiting 1 9 0) × (d.good ≡ true) × (d.bit ≡ Space)
-
-    at_slot : (slot byte : ℕ) → is_slot slot byte ≡ true → numbers (taken slot byte d).event ≡ break_begun ∷ [] → Told (Waiting 1 slot byte)
-    at_slot slot byte h =
-        taken_case (λ (x : Next). numbers x.event ≡ break_begun ∷ [] → Told (Waiting 1 slot byte)) slot byte d
-        (record {
-          start = λ z. not-told break_begun;
-          no_start = λ z. not-told break_begun;
-          level_lost = λ nz. other_told break_begun carrier_lost (λ e. omega arith);
-          bit = λ nz l bit b. not-told break_begun;
-          doubt = λ nz g e. other_told break_begun bit_doubtful (λ e. omega arith);
-          break = λ l g e z told. let nine : slot ≡ 9 = omega (arith, slot-most slot byte h) in (rw (nine, z), g, e);
-          no_stop_told = λ l. other_told break_begun no_stop (λ e. omega arith);
-          character = λ l. other_told break_begun byte (λ e. omega (arith, byte-below slot byte (λ z. omega arith) h));
-        })
+unfolding next_of taken is_stage is_slot
+break-only Searching run d h e = search rules
+break-only (Waiting wait slot byte) run d h e = search rules
+break-only Held run d h e = search rules
 
 -- a doubtful bit: at a data or stop slot, with a good level
 pub record AtDoubt (stage : Stage) (d : Decision) : Type 0 where
@@ -155,19 +103,8 @@ pub record AtDoubt (stage : Stage) (d : Decision) : Type 0 where
 
 pub doubt_only : (stage : Stage) (run : ℕ) (d : Decision) → is_stage stage ≡ true → numbers (next_of stage run d).event ≡ bit_doubtful ∷ []
     → AtDoubt stage d
-doubt_only stage run d = told-only bit_doubtful (λ (stage : Stage). AtDoubt stage d) d at_slot stage run
-  where
-    at_slot : (slot byte : ℕ) → is_slot slot byte ≡ true → numbers (taken slot byte d).event ≡ bit_doubtful ∷ [] → AtDoubt (Waiting 1 slot byte) d
-    at_slot slot byte h =
-        taken_case (λ (x : Next). numbers x.event ≡ bit_doubtful ∷ [] → AtDoubt (Waiting 1 slot byte) d) slot byte d
-        (record {
-          start = λ z. not-told bit_doubtful;
-          no_start = λ z. not-told bit_doubtful;
-          level_lost = λ nz. other_told bit_doubtful carrier_lost (λ e. omega arith);
-          bit = λ nz l bit b. not-told bit_doubtful;
-          doubt = λ nz g e told.
-              record { slot = slot; byte = byte; stands = refl; behind_start = omega (arith, nz); good = g; doubtful = e };
-          break = λ l g e z. other_told bit_doubtful break_begun (λ e. omega arith);
-          no_stop_told = λ l. other_told bit_doubtful no_stop (λ e. omega arith);
-          character = λ l. other_told bit_doubtful byte (λ e. omega (arith, byte-below slot byte (λ z. omega arith) h));
-        })
+unfolding next_of taken is_stage is_slot
+doubt_only Searching run d h e = search rules
+doubt_only (Waiting wait slot byte) run d h e =
+    record { slot = slot; byte = byte; stands = search rules; behind_start = search rules; good = search rules; doubtful = search rules }
+doubt_only Held run d h e = search rules

@@ -1,11 +1,12 @@
 -- The cases of the rules, each an equation under the tests that lead to it.
 -- Assumes nothing.
 use mathlib.Core.Path.{◌≡◌, refl, ap, ◌∙◌}
-use mathlib.Core.Bool.{Bool, true, false, cond, not, ◌&&◌, and-false, beq}
+use mathlib.Core.Bool.{Bool, true, false, cond, not, ◌&&◌, and-false}
 use Prim.Native.Nat.{ℕ, zero, suc, ◌-◌, ◌<◌, ◌≤◌}
 use native.Mathlib.Omega.{arith}
 use borrow.Author.Tests.{le-leb, lt-leb, eq-eqb, ne_eqb, leb-true, leb-false, eqb-true, eqb-false, not-false}
 use lib.Dec.{leb, eqb}
+use Rattle.std.proofs.Common.{rules}
 use Rattle.integers.proofs.Tests.{cond_case, cond-split}
 use Rattle.control.specs.declared.Bit.{Bit}
 use Rattle.control.specs.declared.Bit.TheVariants.{Mark, Space, Doubtful}
@@ -97,14 +98,6 @@ module _ (P : Next → Type 0) (slot byte : ℕ) (d : Decision) (c : Cases P slo
 
 -- ---- the stage after a sample
 
-same_true : (b : Bool) → beq b true ≡ b
-same_true true = refl
-same_true false = refl
-
-same_false : (b : Bool) → beq b false ≡ not b
-same_false true = refl
-same_false false = refl
-
 module _ (run : ℕ) (d : Decision) where
   pub search_found : run ≡ 32 → d.space ≡ true → next_of Searching run d ≡ quiet (Waiting 16 0 0)
   unfolding next_of
@@ -150,9 +143,9 @@ Asks stage (Slot wait slot byte) = stage ≡ Waiting wait slot byte
 
 asks_by : (stage : Stage) → Asks stage (asked_by stage)
 unfolding next_of
-asks_by Searching = record { step = λ run d. rw (same_true d.space) }
+asks_by Searching = record { step = λ run d. search rules }
 asks_by (Waiting wait slot byte) = refl
-asks_by Held = record { step = λ run d. rw (same_false d.space) }
+asks_by Held = record { step = λ run d. search rules }
 
 pub asks : (stage : Stage) (a : Asked) → a ≡ asked_by stage → Asks stage a
 asks stage a e = rw e (asks_by stage)

@@ -3,12 +3,12 @@
 use mathlib.Core.Path.{◌≡◌}
 use mathlib.Core.Bool.{Bool, false, and-false, beq}
 use mathlib.Core.List.{List, [], ◌∷◌, ◌++◌}
-use Prim.Native.Nat.{ℕ, ◌+◌, ◌≤◌, min}
+use Prim.Native.Nat.{ℕ, ◌+◌, ◌≤◌}
 use native.Mathlib.Omega.{arith}
 use borrow.Author.Tests.{ne_eqb}
 use lib.Dec.{eqb}
 use lib.ListN.{length}
-use Rattle.integers.proofs.Tests.{cond_case}
+use Rattle.std.proofs.Common.{rules}
 use Rattle.calls.specs.Runs.{after}
 use Rattle.calls.proofs.Runs.{run_laws}
 use Rattle.control.specs.declared.Decision.{Decision}
@@ -27,7 +27,7 @@ run-low run [] h = h
 run-low run (d ∷ ds) h = run-low (run_after run d.good) ds (run_kept run d.good)
 
 one_more : (run : ℕ) (good : Bool) → run_after run good ≤ run + 1
-one_more run good = cond_case (λ (n : ℕ). n ≤ run + 1) good (min (run + 1) 32) 0 (omega arith) (omega arith)
+one_more run good = search rules
 
 -- it grows by at most 1 with each
 pub run_slow : (run : ℕ) (ds : List Decision) → run_over run ds ≤ run + length ds
