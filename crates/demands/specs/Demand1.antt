@@ -31,7 +31,7 @@ pub record Demand1 : Type 0 where
   pub transmitter_opening : (band : ℕ) → let o = transmitter.open_of band in
       Opens (1 ∷ []) (transmitter.open_tests band) (transmitter.fresh band) (transmitter.fresh 1) o.number o.state
   pub receiver_opening : (band : ℕ) → let o = receiver.open_of band in
-      Opens (1 ∷ []) (receiver.open_tests band) (receiver.fresh band) (receiver.fresh 1) o.number o.receiver
+      Opens (1 ∷ []) (receiver.open_tests band) (receiver.fresh band) (receiver.fresh 1) o.number o.state
   pub tap_opening : (first second : ℕ) → let o = tap.open_of first second in
       Opens (1 ∷ 8 ∷ []) (tap.open_tests first second) (tap.fresh first second) (tap.fresh 1 2) o.number o.state
   -- idle and characters have sent every bit

@@ -2,11 +2,11 @@
 #![tactic(auto)]
 
 ghost use Rattle.std.specs.Prelude.{◌≡◌};
-ghost use Rattle.calls.specs.Outcome.{outcome};
+ghost use Rattle.calls.specs.Outcome.{as_answer, outcome};
 ghost use Rattle.receiver.specs.Calls.{block_of};
 
-use calls::Answer;
-use receiver::{Reading, Receiver};
+use calls::{Answered, Refusal};
+use receiver::Receiver;
 
 // Reads a block of samples: the state is lent, and the next one is left in its place.
 pub fn block(
@@ -14,33 +14,13 @@ pub fn block(
     samples: &[i16],
     events: &mut [u16],
     differences: &mut [i64],
-) -> Answer
-    ensures { outcome result receiver.new (events.new, differences.new)
+) -> Result<usize, Refusal>
+    ensures { outcome (as_answer result) receiver.new (events.new, differences.new)
         ≡ block_of receiver.old samples.now (events.old, differences.old) }
 {
-    let r = *receiver;
-    let reading = called(r, samples, events, differences);
-    *receiver = reading.receiver;
-    reading.answer
-}
-
-// The call on the state that was copied out: a wrong call is refused for what it gives.
-fn called(
-    receiver: Receiver,
-    samples: &[i16],
-    events: &mut [u16],
-    differences: &mut [i64],
-) -> Reading
-    ensures { outcome result.answer result.receiver (events.new, differences.new)
-        ≡ block_of receiver samples.now (events.old, differences.old) }
-{
     let reading = receiver.block(samples, events, differences);
-    let next = reading.receiver;
-    let told = reading.answer;
-    Reading {
-        receiver: next,
-        answer: told,
-    }
+    *receiver = reading.state;
+    reading.answer
 }
 
 // The same entry for callers that hold the state by value: it lends the state that it is handed.
@@ -49,14 +29,11 @@ pub fn block_by_value(
     samples: &[i16],
     events: &mut [u16],
     differences: &mut [i64],
-) -> Reading
-    ensures { outcome result.answer result.receiver (events.new, differences.new)
+) -> Answered<Receiver, usize>
+    ensures { outcome (as_answer result.answer) result.state (events.new, differences.new)
         ≡ block_of receiver samples.now (events.old, differences.old) }
 {
     let mut state = receiver;
     let answer = block(&mut state, samples, events, differences);
-    Reading {
-        receiver: state,
-        answer,
-    }
+    Answered { state, answer }
 }

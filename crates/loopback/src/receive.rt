@@ -8,7 +8,7 @@ ghost use Rattle.receiver.specs.Calls.{fresh, in_range};
 ghost use Rattle.receiver.specs.AsCoded.{numbers_of, differences_of};
 
 use calls::Answer;
-use receiver::{Reading, Receiver};
+use receiver::Receiver;
 
 // Reads samples from the fresh receiver of a band. The events and their differences go to the fronts of the two lists, and their count is
 // given.
@@ -31,15 +31,14 @@ pub(crate) fn receive(
         ≡ sets differences.old 0 (differences_of (measured_after (fresh band) samples.now)) }
 {
     let opened = Receiver::open(band);
-    let mut r = opened.receiver;
+    let mut r = opened.state;
     let mut at: usize = 0;
     let mut count: usize = 0;
     while at < samples.len() {
         let end = block_end(at, size, samples.len());
         let reading = read(r, &samples[at..end], events, differences, count);
-        let answer = reading.answer;
-        r = reading.receiver;
-        count = answer.count;
+        r = reading.0;
+        count = reading.1;
         at = end;
     }
     count
@@ -53,22 +52,19 @@ fn block_end(at: usize, size: usize, len: usize) -> usize
     if len - at < size { len } else { at + size }
 }
 
-// Reads a block, and puts its events and their differences behind those that are there. The answer has the new count.
+// Reads a block, and puts its events and their differences behind those that are there. It gives the next state and the new count.
 fn read(
     receiver: Receiver,
     block: &[i16],
     events: &mut [u16],
     differences: &mut [i64],
     count: usize,
-) -> Reading
+) -> (Receiver, usize)
     requires receiver_value { in_range receiver ≡ true }
     requires block_len_bound { (length block.now ≤ most_samples) × (are_samples block.now ≡ true) }
     requires block_in_bounds { count + length (measured_after receiver block.now) ≤ length events.old }
     requires block_in_bounds_2 { count + length (measured_after receiver block.now) ≤ length differences.old }
-    ensures next { result ≡ record {
-      receiver = state_after receiver block.now;
-      answer = record { number = 0; count = count + length (measured_after receiver block.now) };
-    } }
+    ensures next { result ≡ (state_after receiver block.now, count + length (measured_after receiver block.now)) }
     ensures told { events.new
         ≡ sets events.old count (numbers_of (measured_after receiver block.now)) }
     ensures beside { differences.new
@@ -77,18 +73,11 @@ fn read(
     let mut part = [0u16; receiver::MOST_EVENTS];
     let mut part_differences = [0i64; receiver::MOST_EVENTS];
     let reading = lent::block_by_value(receiver, block, &mut part, &mut part_differences);
-    let answer = reading.answer;
+    let answer = Answer::from(reading.answer);
     let n = answer.count;
-    let next = reading.receiver;
     put_events(events, count, &part[..n]);
     put_differences(differences, count, &part_differences[..n]);
-    Reading {
-        receiver: next,
-        answer: Answer {
-            number: 0,
-            count: count + n,
-        },
-    }
+    (reading.state, count + n)
 }
 
 // Puts events to a list from the place `at` on.

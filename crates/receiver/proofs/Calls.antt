@@ -2,26 +2,30 @@
 -- Assumes nothing.
 use mathlib.Core.Path.{◌≡◌, refl, sym, ap, ◌∙◌}
 use mathlib.Core.Bool.{Bool, true, cond}
-use mathlib.Core.List.{List}
-use Prim.Native.Nat.{ℕ, zero, suc, ◌≤◌}
+use mathlib.Core.List.{List, map, map-map}
+use Prim.Native.Nat.{ℕ, zero, suc, ◌+◌, ◌≤◌}
+use native.Mathlib.Nat.{zero-add}
 use native.Mathlib.Omega.{arith}
-use borrow.Author.Tests.{le-ltb, ltb-false, ne_eqb, not-false}
+use borrow.Author.Tests.{le-ltb, ltb-false, not-false}
 use lib.Dec.{eqb, eqb-suc-zero}
 use lib.IntN.{ℤ}
 use lib.ListN.{length, length-map}
 use lib.Seq.{sets}
+use Rattle.std.specs.Prelude.{Ok}
 use Rattle.integers.specs.All.{none, more}
 use Rattle.integers.proofs.Lists.{sets-front}
 use Rattle.calls.specs.Refusals.{first_of}
-use Rattle.calls.specs.Outcome.{Outcome, outcome, refused, over, accepted_in, one_list, both_in, accepted}
-use Rattle.calls.proofs.Refusals.{NoneHolds, none-holds, not-refused, is-refused, refused_or}
+use Rattle.calls.specs.declared.Answer.{Answer}
+use Rattle.calls.specs.Outcome.{Outcome, outcome, as_answer, refused, over, accepted_in, one_list, both_in, accepted}
+use Rattle.calls.proofs.Refusals.{NoneHolds, none-holds, not-refused, refused_or, answer_given}
 use Rattle.calls.proofs.Indexed.{values, indices, indexed_values}
 use Rattle.calls.proofs.Lists.{Keeps, one_keeps, both_keep}
 use Rattle.tones.specs.Samples.{most_samples, are_samples}
-use Rattle.receiver.specs.declared.Reading.{Reading}
 use Rattle.receiver.specs.declared.Receiver.{Receiver}
 use Rattle.receiver.specs.Step.{after_sample, measured_at, state_after, events_after, measured_after, indexed_after}
 use Rattle.receiver.specs.Calls.{in_range, places_for, tests_of, block_tests, EventLists, two_lists, shorter, block_of, shortest, indexed_of}
+use Rattle.receiver.specs.declared.filling.Lists.{Lists}
+use Rattle.receiver.specs.Lent.{Put}
 use Rattle.receiver.specs.AsCoded.{block_in, indices_in}
 use Rattle.receiver.proofs.Counting.{measured-numbers, measured-few}
 
@@ -78,6 +82,13 @@ module _ (s : Receiver) (xs : List ℤ) where
     block_case P refuses reads =
         refused_or (block_tests s xs (shorter lent)) s lent (read lent) P refuses (λ e. reads (block-known (shorter lent) e))
 
+  -- the events of the indexed ones, and their count
+  pub told_values : values (indexed_after s xs) ≡ measured_after s xs
+  told_values = indexed_values after_sample measured_at 0 s xs
+
+  pub told-count : length (indexed_after s xs) ≡ length (measured_after s xs)
+  told-count = sym (length-map (indexed_after s xs) (λ (p : (ℕ × ℤ) × ℕ). p.0)) ∙ ap length told_values
+
   -- ---- for callers that use the numbers alone
 
   -- an outcome without the differences
@@ -97,35 +108,57 @@ module _ (s : Receiver) (xs : List ℤ) where
 
   -- ---- what the code gives, with so many places of the lists
 
-  module _ (places : ℕ) (lent : EventLists) (ix : List ℕ) where
-    -- with the number of a refusal
-    pub refused_in : (r : Reading) (n : ℕ) → n ≡ first_of (block_tests s xs places) → (n ≡ 0 → ⊥)
-        → r ≡ record { receiver = s; answer = record { number = n; count = 0 } }
-        → (outcome r.answer r.receiver lent ≡ block_in s xs places lent) × (ix ≡ indices_in s xs places ix)
-    refused_in r n e h q = (
-      ap (λ (x : Reading). outcome x.answer x.receiver lent) q ∙ is-refused (block_tests s xs places) s lent (read lent) n e h,
-      rw (← e, ne_eqb n 0 h) refl,
-    )
+  module _ (places : ℕ) (old new : Lists) (empty : old.count ≡ 0) where
+    abbrev lent : EventLists
+    lent = (old.events.now, old.differences.now)
 
-    -- with the block read
-    pub read_in : {o : Outcome Receiver EventLists} {told : List ℕ} → Readable places → o ≡ read lent → told ≡ sets ix 0 (indices (indexed_after s xs))
-        → (o ≡ block_in s xs places lent) × (told ≡ indices_in s xs places ix)
-    read_in k e t =
-        let z = tests_0 (in_range s) xs (places_for (length xs)) places k in
-        (e ∙ sym (not-refused (block_tests s xs places) s lent (read lent) z), rw z t)
+    -- the block read
+    module _ (z : 0 ≡ first_of (block_tests s xs places)) (p : Put old new (indexed_after s xs))
+        (m : places ≤ length old.events.now) (n : places ≤ length old.differences.now) where
+      k : Readable places
+      k = block-known places (sym z)
+
+      few : length (measured_after s xs) ≤ places
+      few = omega (arith, measured-few s xs k.ranged, k.room)
+
+      -- one of the lists, from its side of the events
+      stored : {A : Type 0} (f : ℕ × ℤ → A) (given left : List A) → places ≤ length given
+          → left ≡ sets given old.count (map (λ (e : (ℕ × ℤ) × ℕ). f e.0) (indexed_after s xs)) → left ≡ over (map f (measured_after s xs)) given
+      stored f given left h e =
+          e
+          ∙ ap (λ (n : ℕ). sets given n (map (λ (e : (ℕ × ℤ) × ℕ). f e.0) (indexed_after s xs))) empty
+          ∙ ap (sets given 0) (sym (map-map f (λ (e : (ℕ × ℤ) × ℕ). e.0) (indexed_after s xs)) ∙ ap (map f) told_values)
+          ∙ sets-front (map f (measured_after s xs)) given (omega (arith, length-map (measured_after s xs) f, few))
+
+      pub read_in : outcome (as_answer (Ok new.count)) (state_after s xs) (new.events.now, new.differences.now) ≡ block_in s xs places lent
+      read_in =
+          answer_given (block_tests s xs places) s lent (read lent) z new.count (state_after s xs) (new.events.now, new.differences.now)
+          (λ i.
+          record {
+            number = 0;
+            count = (p.count ∙ ap (λ (n : ℕ). n + length (indexed_after s xs)) empty ∙ zero-add _ ∙ told-count) i;
+            state = state_after s xs;
+            lent = (
+              stored (λ (e : ℕ × ℤ). e.0) old.events.now new.events.now m p.events i,
+              stored (λ (e : ℕ × ℤ). e.1) old.differences.now new.differences.now n p.differences i,
+            );
+          })
+
+      pub told_in : new.indices.now ≡ indices_in s xs places old.indices.now
+      told_in = rw (← z) (rw empty at p.indices)
+
+  -- with the places of the shorter list, left in the lists as they were lent
+  pub block_left : (a : Answer) (u : Receiver) (lent left : EventLists) (events : List ℕ) (differences : List ℤ) (places : ℕ) → events ≡ left.0
+      → differences ≡ left.1 → places ≡ shorter lent → outcome a u left ≡ block_in s xs places lent → outcome a u (events, differences) ≡ block_of s xs lent
+  unfolding block_of
+  block_left a u lent left events differences places e d p h =
+      (λ i. outcome a u (e i, d i)) ∙ h ∙ ap (λ (n : ℕ). block_in s xs n lent) p
 
   -- ---- a block with indices
 
   -- the same with an index beside each event
   abbrev pub indexed : EventLists × List ℕ → Outcome Receiver (EventLists × List ℕ)
   indexed = accepted_in (both_in two_lists one_list) (state_after s xs) (indexed_after s xs)
-
-  -- the events of the indexed ones, and their count
-  pub told_values : values (indexed_after s xs) ≡ measured_after s xs
-  told_values = indexed_values after_sample measured_at 0 s xs
-
-  pub told-count : length (indexed_after s xs) ≡ length (measured_after s xs)
-  told-count = sym (length-map (indexed_after s xs) (λ (p : (ℕ × ℤ) × ℕ). p.0)) ∙ ap length told_values
 
   module _ (lent : EventLists) (ix : List ℕ) where
     abbrev places : ℕ
@@ -134,9 +167,9 @@ module _ (s : Receiver) (xs : List ℤ) where
     -- no test holds
     module _ (k : Readable places) where
       -- the block read, with its indices
-      with_indices : (r : Reading) (left : EventLists) (told : List ℕ) → outcome r.answer r.receiver left ≡ read lent
-          → told ≡ sets ix 0 (indices (indexed_after s xs)) → outcome r.answer r.receiver (left, told) ≡ indexed (lent, ix)
-      with_indices r left told e t i =
+      with_indices : (a : Answer) (u : Receiver) (left : EventLists) (told : List ℕ) → outcome a u left ≡ read lent
+          → told ≡ sets ix 0 (indices (indexed_after s xs)) → outcome a u (left, told) ≡ indexed (lent, ix)
+      with_indices a u left told e t i =
           record {
             number = (e i).number;
             count = (ap (λ (o : Outcome Receiver EventLists). o.count) e ∙ sym told-count) i;
@@ -156,17 +189,25 @@ module _ (s : Receiver) (xs : List ℤ) where
               (omega (arith, length-map (indexed_after s xs) (λ (p : (ℕ × ℤ) × ℕ). p.1), told-count, measured-few s xs k.ranged, k.room))
 
     -- what the code gives is the call with indices
-    pub indexed_in : (r : Reading) (left : EventLists) (told : List ℕ) → outcome r.answer r.receiver left ≡ block_in s xs places lent
-        → told ≡ indices_in s xs places ix → outcome r.answer r.receiver (left, told) ≡ indexed_of s xs (lent, ix)
+    pub indexed_in : (a : Answer) (u : Receiver) (left : EventLists) (told : List ℕ) → outcome a u left ≡ block_in s xs places lent
+        → told ≡ indices_in s xs places ix → outcome a u (left, told) ≡ indexed_of s xs (lent, ix)
     unfolding indexed_of
-    indexed_in r left told e t = go (first_of (block_tests s xs places)) (block-known places) e t
+    indexed_in a u left told e t = go (first_of (block_tests s xs places)) (block-known places) e t
       where
         go : (n : ℕ) → (n ≡ 0 → Readable places)
-            → outcome r.answer r.receiver left ≡ cond (eqb n 0) (read lent) (refused n s lent)
+            → outcome a u left ≡ cond (eqb n 0) (read lent) (refused n s lent)
             → told ≡ cond (eqb n 0) (sets ix 0 (indices (indexed_after s xs))) ix
-            → outcome r.answer r.receiver (left, told) ≡ cond (eqb n 0) (indexed (lent, ix)) (refused n s (lent, ix))
-        go zero k e t = with_indices (k refl) r left told e t
+            → outcome a u (left, told) ≡ cond (eqb n 0) (indexed (lent, ix)) (refused n s (lent, ix))
+        go zero k e t = with_indices (k refl) a u left told e t
         go (suc n) k e t =
-            let e' : outcome r.answer r.receiver left ≡ refused (suc n) s lent = rw (eqb-suc-zero n) at e in
+            let e' : outcome a u left ≡ refused (suc n) s lent = rw (eqb-suc-zero n) at e in
             let t' : told ≡ ix = rw (eqb-suc-zero n) at t in
             rw (eqb-suc-zero n) (λ i. record { number = (e' i).number; count = (e' i).count; state = (e' i).state; lent = ((e' i).lent, t' i) })
+
+    -- left in the lists as they were lent
+    pub indexed_left : (a : Answer) (u : Receiver) (left : EventLists) (told events : List ℕ) (differences : List ℤ) (indices : List ℕ) (n : ℕ)
+        → events ≡ left.0 → differences ≡ left.1 → indices ≡ told → n ≡ places → outcome a u left ≡ block_in s xs n lent → told ≡ indices_in s xs n ix
+        → outcome a u ((events, differences), indices) ≡ indexed_of s xs (lent, ix)
+    indexed_left a u left told events differences indices n e d k p h t =
+        (λ i. outcome a u ((e i, d i), k i))
+        ∙ indexed_in a u left told (h ∙ ap (λ (m : ℕ). block_in s xs m lent) p) (t ∙ ap (λ (m : ℕ). indices_in s xs m ix) p)

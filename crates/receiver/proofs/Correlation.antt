@@ -1,62 +1,93 @@
 -- A loop that sums 32 products of samples and weights: what holds before each product, and at the end. The bounds keep every sum
 -- within an i32.
 -- Assumes nothing.
-use mathlib.Core.Path.{◌≡◌, sym, ap, ◌∙◌}
-use mathlib.Core.List.{List}
-use Prim.Native.Nat.{ℕ, ◌+◌, ◌*◌, ◌<◌, ◌≤◌, zero-le}
+use mathlib.Core.Path.{◌≡◌, refl, sym, ap, ◌∙◌}
+use mathlib.Core.Bool.{true}
+use mathlib.Core.List.{List, [], ◌∷◌}
+use mathlib.Core.Logic.{◌⊎◌, inl, inr}
+use Prim.Native.Nat.{◌+◌, ◌*◌, ◌≤◌}
 use native.Mathlib.Omega.{arith}
-use lib.IntN.{ℤ, pos, nat_abs, ◌+ℤ◌, ◌*ℤ◌, +ℤ_idl, +ℤ_idr}
-use lib.ListN.{get_or, drop, drop_of_length-le}
-use mir.Syntax.{w16}
-use mir.Val.{to_z, of_z}
+use lib.IntN.{ℤ, pos, nat_abs, ◌+ℤ◌, ◌*ℤ◌, +ℤ_assoc, +ℤ_idl, +ℤ_idr}
+use lib.ListN.{length}
+use mir.Syntax.{w16, w32}
+use mir.Val.{SFits, to_z, of_z}
 use mir.Facts.{to_z-of_z}
-use Rattle.integers.specs.Sums.{dot}
+use Rattle.integers.specs.Sums.{dot, Bounded}
 use Rattle.integers.proofs.Size.{add_size, mul_size, fits_size}
-use Rattle.integers.proofs.Sums.{dot-next}
+use Rattle.integers.proofs.Sums.{bounded_rest}
+use Rattle.tones.specs.Samples.{are_samples}
 use Rattle.tones.proofs.Samples.{samples_bound}
-use Rattle.receiver.specs.AsCoded.{IsWindow, AreWeights}
 
--- `sum` is the sum of the first j products
-pub record Summing (xs ws : List ℤ) (j : ℕ) (sum : ℤ) : Type 0 where
-  pub inside : j ≤ 32
-  pub size : nat_abs sum ≤ j * 49146000
-  pub rest : sum +ℤ dot (drop j xs) (drop j ws) ≡ dot xs ws
+-- `sum` with the products of the samples xs and the weights ws, which are left, is the whole sum
+pub record Summing (whole : ℤ) (xs ws : List ℤ) (sum : ℤ) : Type 0 where
+  pub samples : Bounded 8191 xs
+  pub small : Bounded 6000 ws
+  pub size : nat_abs sum + length xs * 49146000 ≤ 1572672000
+  pub rest : sum +ℤ dot xs ws ≡ whole
 
-pub summing_start : (xs ws : List ℤ) → Summing xs ws 0 (pos 0)
-summing_start xs ws = record { inside = zero-le; size = zero-le; rest = +ℤ_idl (dot xs ws) }
+pub summing_start : (xs ws xs₀ ws₀ : List ℤ) → xs₀ ≡ xs → ws₀ ≡ ws → are_samples xs ≡ true → Bounded 6000 ws → length xs ≡ 32
+    → Summing (dot xs ws) xs₀ ws₀ (pos 0)
+summing_start xs ws xs₀ ws₀ e f a b l =
+    rw (e, f) (record { samples = samples_bound xs a; small = b; size = omega arith; rest = +ℤ_idl (dot xs ws) })
 
-module _ {xs ws : List ℤ} {j : ℕ} {sum : ℤ} (s : Summing xs ws j sum) (window : IsWindow xs) (weights : AreWeights ws) where
-  module _ (h : j < 32) where
-    abbrev x : ℤ
-    x = get_or xs j (pos 0)
+-- one more product of x and w, which the code has as a and b
+module _ {whole : ℤ} {xs ws xs₀ ws₀ : List ℤ} {sum x w : ℤ} (s : Summing whole xs₀ ws₀ sum) (ea : xs₀ ≡ x ∷ xs) (eb : ws₀ ≡ w ∷ ws) (a b : ℤ)
+    (ex : a ≡ to_z w16 (of_z w16 x)) (ew : b ≡ to_z w16 (of_z w16 w)) where
+  at : Summing whole (x ∷ xs) (w ∷ ws) sum
+  at = rw (ea, eb) at s
 
-    abbrev y : ℤ
-    y = get_or ws j (pos 0)
+  x_size : nat_abs x ≤ 8191
+  x_size = at.samples.at 0
 
-    -- a read of each, as the code has it
-    x16 : to_z w16 (of_z w16 x) ≡ x
-    x16 = to_z-of_z {w = w16} (fits_size ((samples_bound xs window.samples).at j) tt)
+  w_size : nat_abs w ≤ 6000
+  w_size = at.small.at 0
 
-    y16 : to_z w16 (of_z w16 y) ≡ y
-    y16 = to_z-of_z {w = w16} (fits_size (weights.small.at j) tt)
+  product_size : nat_abs (x *ℤ w) ≤ 49146000
+  product_size = mul_size x w x_size w_size
 
-    -- what one more product asks
-    pub summing_asks : (nat_abs sum ≤ 1523526000) × ((nat_abs (to_z w16 (of_z w16 x)) ≤ 8191) × (nat_abs (to_z w16 (of_z w16 y)) ≤ 6000))
-    summing_asks = (omega (arith, s.size), (rw x16 ((samples_bound xs window.samples).at j), rw y16 (weights.small.at j)))
+  sum_size : nat_abs (sum +ℤ x *ℤ w) ≤ nat_abs sum + 49146000
+  sum_size = add_size sum (x *ℤ w) {m = nat_abs sum} (omega arith) product_size
 
-    -- and what it gives
-    pub summing_more : (r : ℤ) → r ≡ sum +ℤ to_z w16 (of_z w16 x) *ℤ to_z w16 (of_z w16 y) → Summing xs ws (j + 1) r
-    summing_more r e =
-        let f : r ≡ sum +ℤ x *ℤ y = rw (e, x16, y16) in
-        record {
-          inside = omega arith;
-          size = omega (arith, ap nat_abs f, add_size sum (x *ℤ y) s.size (mul_size x y ((samples_bound xs window.samples).at j) (weights.small.at j)));
-          rest = ap (λ (z : ℤ). z +ℤ dot (drop (j + 1) xs) (drop (j + 1) ws)) f ∙ sym (dot-next xs ws j sum (rw window.long h) (rw weights.long h)) ∙ s.rest;
-        }
+  abbrev pub product : ℤ
+  product = to_z w32 (of_z w32 (to_z w32 (of_z w32 a) *ℤ to_z w32 (of_z w32 b)))
 
-  pub summing_end : 32 ≤ j → (sum ≡ dot xs ws) × (nat_abs sum ≤ 1572672000)
+  product_is : product ≡ x *ℤ w
+  product_is =
+      let fx : to_z w16 (of_z w16 x) ≡ x = to_z-of_z {w = w16} (fits_size x_size tt) in
+      let fw : to_z w16 (of_z w16 w) ≡ w = to_z-of_z {w = w16} (fits_size w_size tt) in
+      let gx : to_z w32 (of_z w32 x) ≡ x = to_z-of_z {w = w32} (fits_size x_size tt) in
+      let gw : to_z w32 (of_z w32 w) ≡ w = to_z-of_z {w = w32} (fits_size w_size tt) in
+      let g : to_z w32 (of_z w32 (x *ℤ w)) ≡ x *ℤ w = to_z-of_z {w = w32} (fits_size product_size tt) in
+      simp (ex, ew, fx, fw, gx, gw, g)
+
+  fits : SFits w32 (sum +ℤ x *ℤ w)
+  fits = fits_size {n = 1572672000} (omega (arith, sum_size, at.size)) tt
+
+  pub summing_fits : SFits w32 (sum +ℤ product)
+  summing_fits = rw product_is fits
+
+  pub summing_more : Summing whole xs ws (to_z w32 (of_z w32 (sum +ℤ product)))
   unfolding dot
-  summing_end h = (
-    sym (+ℤ_idr sum) ∙ ap (λ (l : List ℤ). sum +ℤ dot l (drop j ws)) (sym (drop_of_length-le xs {i = j} (rw window.long h))) ∙ s.rest,
-    omega (arith, s.size, s.inside),
-  )
+  summing_more =
+      rw (product_is, to_z-of_z {w = w32} fits)
+      (record {
+        samples = bounded_rest at.samples;
+        small = bounded_rest at.small;
+        size = omega (arith, sum_size, at.size);
+        rest = +ℤ_assoc sum (x *ℤ w) (dot xs ws) ∙ at.rest;
+      })
+
+-- none is left
+module _ {whole : ℤ} {xs ws : List ℤ} {sum : ℤ} (s : Summing whole xs ws sum) where
+  pub summing_sum : (length xs ≡ 0) ⊎ (length ws ≡ 0) → sum ≡ whole
+  unfolding dot
+  summing_sum e = sym (+ℤ_idr sum) ∙ ap (λ (z : ℤ). sum +ℤ z) (sym (nothing xs ws e)) ∙ s.rest
+    where
+      nothing : (xs ws : List ℤ) → (length xs ≡ 0) ⊎ (length ws ≡ 0) → dot xs ws ≡ pos 0
+      nothing [] ws e = refl
+      nothing (x ∷ xs) [] e = refl
+      nothing (x ∷ xs) (w ∷ ws) (inl e) = absurd (omega arith)
+      nothing (x ∷ xs) (w ∷ ws) (inr e) = absurd (omega arith)
+
+  pub summing_size : nat_abs sum ≤ 1572672000
+  summing_size = omega (arith, s.size)

@@ -1,29 +1,27 @@
--- Laws of the energies: by lists of weights, and as natural numbers. From the laws of sums and of waves.
+-- Laws of the energies: by the weights of tones, and as natural numbers. From the laws of sums and of waves.
 -- Assumes nothing.
 use mathlib.Core.Path.{◌≡◌, sym, ap, ap₂, ◌∙◌}
 use mathlib.Core.Bool.{true}
 use mathlib.Core.List.{List}
-use Prim.Native.Nat.{ℕ, ◌+◌, ◌*◌, ◌<◌}
+use Prim.Native.Nat.{ℕ, ◌+◌, ◌*◌}
 use native.Mathlib.Nat.{zero-add, add_comm}
-use native.Mathlib.Omega.{arith}
 use lib.IntN.{ℤ, pos, ◌+ℤ◌, ◌*ℤ◌}
-use lib.ListN.{get_or, drop, length-drop}
-use lib.Seq.{length-take-le}
+use lib.ListN.{get_or}
 use lib.Signed.{le_z}
-use Rattle.integers.specs.Sums.{dot, sum_to}
+use Rattle.integers.specs.Sums.{dot, sum_to, Bounded}
 use Rattle.integers.proofs.Size.{square}
-use Rattle.integers.proofs.Sums.{sum_to_same, sum_to-dot, products, bounded_take, bounded_drop}
+use Rattle.integers.proofs.Sums.{sum_to_same, sum_to-dot, products}
 use Rattle.sine.specs.Sine.{S, C}
-use Rattle.sine.specs.Wave.{wave, weights_of}
-use Rattle.sine.proofs.Wave.{length-wave, wave-at}
-use Rattle.sine.proofs.Parts.{length_weights, weights_bound, weights_parts}
+use Rattle.sine.specs.Wave.{wave}
+use Rattle.sine.proofs.Wave.{length-wave, wave_bound, wave-at}
 use Rattle.tones.specs.declared.Tones.{Tones}
 use Rattle.weighing.specs.Weighing.{decided}
 use Rattle.weighing.proofs.Laws.{apart_least}
 use Rattle.receiver.specs.Energy.{in_phase, quadrature, energy, energyℕ, decision_of}
-use Rattle.receiver.specs.AsCoded.{AreWeights, energy_by, IsBank, kind, decision_by}
+use Rattle.receiver.specs.declared.energy.Tone.{Tone}
+use Rattle.receiver.specs.Weighed.{energy_by, decision_by}
 
--- ---- by lists of weights
+-- ---- by the weights of a tone
 
 -- a sum against a tone from the phase p on is the dot product with its wave
 sum-wave : (f : ℕ → ℤ) (window : List ℤ) (t p : ℕ) → ((j : ℕ) → S (p + j * t) ≡ f (j * t))
@@ -40,28 +38,20 @@ in_phase-dot window t = sum-wave C window t 480 (λ j. ap S (add_comm 480 (j * t
 pub quadrature-dot : (window : List ℤ) (t : ℕ) → quadrature window t ≡ dot window (wave 32 t 0)
 quadrature-dot window t = sum-wave S window t 0 (λ j. ap S (zero-add (j * t)))
 
-energy-by : (window : List ℤ) (t : ℕ) → energy_by (wave 32 t 480) (wave 32 t 0) window ≡ energy window t
+-- 32 sines from a phase on are weights
+pub sines_small : (step phase : ℕ) (ws : List ℤ) → ws ≡ wave 32 step phase → Bounded 6000 ws
+sines_small step phase ws e = rw e (wave_bound 32 step phase)
+
+-- by them the energies of a window are those of the tones
+energy-by : (tone : Tone) (step : ℕ) → tone.cos ≡ wave 32 step 480 → tone.sin ≡ wave 32 step 0 → (window : List ℤ)
+    → energy_by tone window ≡ energy window step
 unfolding energy
-energy-by window t = rw (in_phase-dot window t, quadrature-dot window t)
+energy-by tone step c s window = rw (c, s, in_phase-dot window step, quadrature-dot window step)
 
-pub decision_by_lem : (t : Tones) → decision_by (weights_of t.space t.mark) ≡ decision_of t
+pub decision_by_tones : (t : Tones) (space mark : Tone) → space.cos ≡ wave 32 t.space 480 → space.sin ≡ wave 32 t.space 0
+    → mark.cos ≡ wave 32 t.mark 480 → mark.sin ≡ wave 32 t.mark 0 → decision_by (record { space = space; mark = mark }) ≡ decision_of t
 unfolding decision_of
-decision_by_lem t i window =
-    let w = weights_parts t.space t.mark in
-    decided
-    (((λ j. energy_by (w.first_cosines j) (w.first_sines j) window) ∙ energy-by window t.space) i)
-    (((λ j. energy_by (w.second_cosines j) (w.second_sines j) window) ∙ energy-by window t.mark) i)
-
-pub bank_of : (t : Tones) → IsBank (weights_of t.space t.mark)
-bank_of t = record { long = length_weights t.space t.mark; small = weights_bound t.space t.mark }
-
--- each of the four lists of a bank
-pub kind_weights : (k : ℕ) → k < 4 → {ws : List ℤ} → IsBank ws → AreWeights (kind k ws)
-kind_weights k h {ws} b =
-    record {
-      long = length-take-le 32 (drop (32 * k) ws) (omega (arith, length-drop (32 * k) ws, b.long));
-      small = bounded_take 32 (bounded_drop (32 * k) b.small);
-    }
+decision_by_tones t space mark a b c d i window = decided (energy-by space t.space a b window i) (energy-by mark t.mark c d window i)
 
 -- ---- as natural numbers
 

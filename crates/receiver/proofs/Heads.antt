@@ -2,46 +2,56 @@
 -- window. From the laws of stores.
 -- Assumes nothing.
 use mathlib.Core.Path.{◌≡◌, sym, ap, ap₂, ◌∙◌}
-use mathlib.Core.List.{List, ◌++◌}
-use Prim.Native.Nat.{ℕ, ◌+◌, ◌-◌, ◌<◌, ◌≤◌}
+use mathlib.Core.List.{List, ◌++◌, append-nil, append_assoc}
+use Prim.Native.Nat.{ℕ, ◌+◌, ◌-◌, min}
 use native.Mathlib.Omega.{arith}
-use borrow.Author.Tests.{lt-ltb, le-ltb}
+use borrow.Rule.Slice.PartMut.{put_mid}
 use lib.IntN.{ℤ}
-use lib.ListN.{length, take, drop, length-append, length-drop}
-use lib.Seq.{sets, length-sets, length-take-le, take_all, take_at}
-use Rattle.integers.proofs.Lists.{sets_append, sets-front, sets-whole}
-use Rattle.receiver.specs.AsCoded.{last_window}
+use lib.ListN.{length, take, drop, length-append, length-drop, drop_of_length-le}
+use lib.Seq.{length-take-le, take_all, take_at, drop-append-le, drop-append-add}
+use Rattle.integers.proofs.Tests.{lt_or_le}
+
+-- b stored behind a list a
+over_end : (a rest b : List ℤ) (i k : ℕ) → length a ≡ i → put_mid i k (a ++ rest) b ≡ (a ++ b) ++ drop k (drop i (a ++ rest))
+over_end a rest b i k l =
+    let end : List ℤ = drop k (drop i (a ++ rest)) in
+    ap (λ (xs : List ℤ). xs ++ (b ++ end)) (take_at a rest i l) ∙ sym (append_assoc a b end)
 
 -- the head: the window and the first n samples, stored one behind the other
-pub head_is : (zeros old xs head : List ℤ) (n : ℕ) → length zeros ≡ 64 → length old ≡ 32 → n ≤ 31 → n ≤ length xs
-    → head ≡ sets (sets zeros 0 old) 32 (take n xs) → (length head ≡ 64) × (take (32 + n) head ≡ old ++ take n xs)
-head_is zeros old xs head n lz lo h l e = (
-  ap length e ∙ length-sets (sets zeros 0 old) 32 (take n xs) ∙ length-sets zeros 0 old ∙ lz,
-  ap (take (32 + n)) stored ∙ take_at (old ++ take n xs) _ (32 + n) front,
-)
+pub head_is : (window samples rest a b : List ℤ) (n : ℕ) → length window ≡ 32 → n ≡ min (length samples) 31 → a ≡ window → b ≡ take n samples
+    → take (32 + min (length samples) 31) (put_mid 32 (32 + n - 32) (a ++ rest) b) ≡ window ++ take (min (length samples) 31) samples
+head_is window samples rest a b n l e ea eb =
+    let k : length b ≡ n = ap length eb ∙ length-take-le n samples (omega (arith, e)) in
+    let j : length a ≡ 32 = ap length ea ∙ l in
+    rw (← e, ← ea, ← eb)
+    (ap (take (32 + n)) (over_end a rest b 32 (32 + n - 32) j) ∙ take_at (a ++ b) _ (32 + n) (length-append a b ∙ omega (arith, k, j)))
+
+-- the last window: the end of the old one, and that of the samples
+pub last_is : (window samples zeros a b : List ℤ) (n : ℕ) → length window ≡ 32 → length zeros ≡ 32 → n ≡ min (length samples) 32
+    → a ≡ take (32 - n) (drop n window) → b ≡ take (length samples - (length samples - n)) (drop (length samples - n) samples)
+    → put_mid (32 - n) (32 - (32 - n)) (a ++ drop (32 - n) zeros) b ≡ drop (length samples) (window ++ samples)
+last_is window samples zeros a b n l z e ea eb =
+    let fa : a ≡ drop n window = ea ∙ take_all (32 - n) (drop n window) (omega (arith, length-drop n window)) in
+    let fb : b ≡ drop (length samples - n) samples = eb ∙ take_all (length samples - (length samples - n)) (drop (length samples - n) samples) (omega (arith, length-drop (length samples - n) samples)) in
+    let j : length a ≡ 32 - n = ap length fa ∙ length-drop n window ∙ omega arith in
+    let whole : length (a ++ drop (32 - n) zeros) ≡ 32 = omega (arith, length-append a (drop (32 - n) zeros), length-drop (32 - n) zeros) in
+    over_end a (drop (32 - n) zeros) b (32 - n) (32 - (32 - n)) j
+    ∙ ap (λ (xs : List ℤ). (a ++ b) ++ xs) (drop_of_length-le (drop (32 - n) (a ++ drop (32 - n) zeros)) {i = 32 - (32 - n)} (omega (arith, length-drop (32 - n) (a ++ drop (32 - n) zeros))))
+    ∙ append-nil (a ++ b)
+    ∙ ap₂ (λ (xs ys : List ℤ). xs ++ ys) fa fb
+    ∙ ends
   where
-    front : length (old ++ take n xs) ≡ 32 + n
-    front = length-append old (take n xs) ∙ ap₂ (λ (a b : ℕ). a + b) lo (length-take-le n xs l)
-
-    stored : head ≡ (old ++ take n xs) ++ drop (length (old ++ take n xs)) zeros
-    stored =
-        let z : 0 + length old ≡ 32 = omega arith in
-        e
-        ∙ ap (λ (k : ℕ). sets (sets zeros 0 old) k (take n xs)) (sym z)
-        ∙ sym (sets_append zeros 0 old (take n xs))
-        ∙ sets-front (old ++ take n xs) zeros (omega (arith, front))
-
--- the last window, stored over 32 zeros
-module _ (head xs window zeros : List ℤ) (lz : length zeros ≡ 32) where
-  pub last_short : length xs < 32 → length head ≡ 64 → window ≡ sets zeros 0 (take (length xs + 32 - length xs) (drop (length xs) head)) → window ≡ last_window head xs
-  last_short h lh e =
-      let k : length xs + 32 - length xs ≡ 32 = omega arith in
-      let last : List ℤ = take 32 (drop (length xs) head) in
-      let l : length last ≡ length zeros = length-take-le 32 (drop (length xs) head) (omega (arith, length-drop (length xs) head)) ∙ sym lz in
-      rw (lt-ltb (length xs) 32 h) ((rw k at e) ∙ sets-whole last zeros l)
-
-  pub last-long : 32 ≤ length xs → window ≡ sets zeros 0 (take (length xs - (length xs - 32)) (drop (length xs - 32) xs)) → window ≡ last_window head xs
-  last-long h e =
-      let last : List ℤ = drop (length xs - 32) xs in
-      let l : length last ≡ length zeros = omega (arith, length-drop (length xs - 32) xs) in
-      rw (le-ltb (length xs) 32 h) ((rw (take_all (length xs - (length xs - 32)) last (omega arith)) at e) ∙ sets-whole last zeros l)
+    ends : drop n window ++ drop (length samples - n) samples ≡ drop (length samples) (window ++ samples)
+    ends =
+        lt_or_le (length samples) 32
+        (λ h.
+        let f : n ≡ length samples = omega (arith, e) in
+        let g : length samples - n ≡ 0 = omega arith in
+        rw (g, f) (sym (drop-append-le (length samples) window samples (omega arith))))
+        (λ h.
+        let f : n ≡ 32 = omega (arith, e) in
+        let g : length window + (length samples - 32) ≡ length samples = omega arith in
+        rw f
+        (ap (λ (xs : List ℤ). xs ++ drop (length samples - 32) samples) (drop_of_length-le window {i = 32} (omega arith))
+        ∙ sym (drop-append-add window samples (length samples - 32))
+        ∙ ap (λ (k : ℕ). drop k (window ++ samples)) g))

@@ -4,11 +4,12 @@ pub mod Ranges
 pub mod Counting
 pub mod Events
 pub mod Windows
+pub mod Sources
 pub mod Places
 pub mod Onward
 pub mod Scanning
 pub mod Heads
-pub mod Blocks
 pub mod Calls
+pub mod Blocks
 pub mod Lists
 pub mod Indexed

@@ -4,15 +4,15 @@
 use mathlib.Core.Path.{◌≡◌, refl, sym, ap, ◌∙◌}
 use mathlib.Core.Bool.{Bool, true, false, cond, beq}
 use mathlib.Core.List.{List, [], ◌∷◌, ◌++◌}
-use Prim.Native.Nat.{ℕ, ◌+◌, ◌-◌, ◌<◌, ◌≤◌}
+use Prim.Native.Nat.{ℕ, ◌+◌, ◌-◌, ◌<◌, ◌≤◌, min}
 use native.Mathlib.Omega.{arith}
 use borrow.Author.Tests.{leb-false}
 use lib.Dec.{leb}
-use lib.IntN.{ℤ, pos}
+use lib.IntN.{ℤ}
 use lib.ListN.{length}
 use lib.Seq.{slice, slice_empty, length-slice}
-use Rattle.std.specs.Prelude.{Option, None}
-use Rattle.integers.proofs.Tests.{cond-split}
+use Rattle.std.specs.Prelude.{Option}
+use Rattle.integers.proofs.Tests.{cond-split, lt_or_le}
 use Rattle.calls.specs.Runs.{with_index}
 use Rattle.control.specs.declared.Decision.{Decision}
 use Rattle.control.specs.declared.Next.{Next}
@@ -28,15 +28,19 @@ use Rattle.quality.specs.declared.Measured.{Measured}
 use Rattle.quality.specs.Quality.{least_with, takes_bit}
 use Rattle.quality.specs.AsCoded.{measured_by}
 use Rattle.quality.proofs.Stretches.{behind, numbers_with, tracked, slot-behind, Leads, lead_more, waits, searches}
-use Rattle.receiver.specs.declared.moves.Place.{Place}
+use Rattle.receiver.specs.declared.place.Place.{Place}
 use Rattle.receiver.specs.declared.seek.Sought.{Sought}
 use Rattle.receiver.specs.declared.scan.Turn.{Turn}
-use Rattle.receiver.specs.AsCoded.{judged, IsPlace, run_before, run_at, state_at, exactly, moved_to, skipped, Seeks, missed_at, sought_to, told_by, Onward}
+use Rattle.receiver.specs.declared.filling.Told.{Told}
+use Rattle.receiver.specs.declared.scan.Standing.{Standing}
+use Rattle.receiver.specs.Weighed.{judged}
+use Rattle.receiver.specs.Lent.{told_by}
+use Rattle.receiver.specs.AsCoded.{IsPlace, run_before, run_at, state_at, exactly, moved_to, skipped, Seeks, missed_at, quiet_at, sought_to, Onward}
 use Rattle.receiver.proofs.Places.{decision_more, place_exact, run_exact, known-first, place_moved, place-more, run_on, run_more, run_bad, run-most}
 
 -- what a slot comes to, by what it does to the stage and to the smallest difference, at the place `to`
-abbrev slot_to : Next → Measured → Place → Turn
-slot_to n m to = record { place = to; stage = n.stage; smallest = m.smallest; event = n.event; difference = m.difference }
+abbrev slot_to : Next → Measured → Option Told → Place → Turn
+slot_to n m told to = record { to = record { place = to; stage = n.stage; smallest = m.smallest }; told = told }
 
 module _ (ds : List Decision) (p : Place) where
   -- before decision i none has ended a search
@@ -44,11 +48,6 @@ module _ (ds : List Decision) (p : Place) where
     pub later : p.next ≤ i
     pub place : IsPlace ds (moved_to p i since)
     pub none : NoneFound space (run_at ds p) (slice p.next i ds)
-
-  -- the slot of a wait is taken at i, with a good level or without one
-  pub record SlotTaken (stage : Stage) (q : Option ℤ) (i : ℕ) (n : Next) (m : Measured) : Type 0 where
-    pub good : (judged ds i).good ≡ true → Onward ds p stage q (slot_to n m (moved_to p (i + 1) i))
-    pub bad : (judged ds i).good ≡ false → Onward ds p stage q (slot_to n m (exactly (i + 1) 0))
 
   module _ (v : IsPlace ds p) where
     -- ---- a search
@@ -89,14 +88,21 @@ module _ (ds : List Decision) (p : Place) where
             last = sym n.1 ∙ ap (λ (r : ℕ). is_found space r (judged ds (i - 1))) (ap (run_over (run_at ds p)) (sym b) ∙ run_on ds p v i s.later);
           }
 
-      -- it is not ended before the end, since the run cannot be 32
-      pub seek_short : (first : Place) → first ≡ skipped p → (end : ℕ) → p.next < end → end ≤ length ds → end ≤ first.next
-          → Seeks ds p space (missed_at (moved_to p end end))
-      seek_short first e end h l =
-          rw e
-          (cond-split (λ (q : Place). end ≤ q.next → Seeks ds p space (missed_at (moved_to p end end))) (leb (p.known + (31 - p.ran)) p.next) _ _
+      -- it is not ended before the end: by the decisions up to there or, if it ends before the run can be 32, by none
+      pub seek_none : (first : Place) → first ≡ skipped p → (end : ℕ) → p.next < end → end ≤ length ds
+          → (first.next ≤ end → Seeking space end first.since) → Seeks ds p space (missed_at (moved_to p end (min first.since end)))
+      seek_none first e end h l sought =
+          lt_or_le end first.next
+          (rw e
+          (cond-split (λ (q : Place). end < q.next → Seeks ds p space (missed_at (moved_to p end (min q.since end)))) (leb (p.known + (31 - p.ran)) p.next) _ _
           (λ t m. absurd (omega arith))
-          (λ t m. seek_missed end end h (seek_over end h l m)))
+          (λ t m.
+          let f : min (p.known + (31 - p.ran)) end ≡ end = omega arith in
+          rw f (seek_missed end end h (seek_over end h l (omega arith))))))
+          (λ m.
+          let s = sought m in
+          let f : min first.since end ≡ first.since = omega (arith, s.place.passed) in
+          rw f (seek_missed end first.since h s))
 
       module _ (i since : ℕ) (s : Seeking space i since) (l : i < length ds) where
         known_i : p.known ≤ i
@@ -140,88 +146,100 @@ module _ (ds : List Decision) (p : Place) where
               last = rw f (ap (λ (n : ℕ). is_found space n (judged ds i)) (sym (run_exact ds (i + 1) run)));
             }
 
-    -- ---- from the place on
+-- ---- from the place on
 
-    module _ (stage : Stage) (q : Option ℤ) where
-      -- the decisions from the place to i lead to this stage and this difference, with these events
-      abbrev Led : ℕ → Stage → Option ℤ → List ((ℕ × ℤ) × ℕ) → Type 0
-      Led i = Leads p.next (state_at ds p stage q) (slice p.next i ds) (run_before ds p i)
+module _ (ds : List Decision) (from : Standing) where
+  abbrev p : Place
+  p = from.place
 
-      led_more : (i : ℕ) {s : Stage} {r : Option ℤ} → p.next ≤ i → i < length ds → Led i s r [] → (n : Next)
-          → n ≡ next_of s (run_before ds p (i + 1)) (judged ds i)
-          → Led (i + 1) n.stage (behind s r (judged ds i).difference n.stage)
-          (with_index i (numbers_with (least_with r (judged ds i).difference) n.event))
-      led_more i h l a n e =
-          let r = run_more ds p v i (omega (arith, known-first ds p v)) l in
-          let j : p.next + length (slice p.next i ds) ≡ i = omega (arith, length-slice p.next i ds (omega arith)) in
-          rw (decision_more ds p.next i h l, r) (rw j at (lead_more (judged ds i) n (rw r at e) a))
+  -- the slot of a wait is taken at i, with a good level or without one
+  pub record SlotTaken (i : ℕ) (n : Next) (m : Measured) (told : Option Told) : Type 0 where
+    pub good : (judged ds i).good ≡ true → Onward ds from (slot_to n m told (moved_to p (i + 1) i))
+    pub bad : (judged ds i).good ≡ false → Onward ds from (slot_to n m told (exactly (i + 1) 0))
 
-      onward_led : (t : Turn) → p.next < t.place.next → IsPlace ds t.place → run_at ds t.place ≡ run_before ds p t.place.next
-          → Led t.place.next t.stage t.smallest (with_index (t.place.next - 1) (told_by t)) → Onward ds p stage q t
-      onward_led t h w e a =
-          record {
-            later = h;
-            place = w;
-            state = a.state ∙ sym (λ j. tracked (e j) t.stage t.smallest);
-            events = a.told;
-          }
+  -- the decisions from the place to i lead to this stage and this difference, with these events
+  abbrev Led : ℕ → Stage → Option ℤ → List ((ℕ × ℤ) × ℕ) → Type 0
+  Led i = Leads p.next (state_at ds from) (slice p.next i ds) (run_before ds p i)
+
+  module _ (v : IsPlace ds p) where
+    led_more : (i : ℕ) {s : Stage} {r : Option ℤ} → p.next ≤ i → i < length ds → Led i s r [] → (n : Next)
+        → n ≡ next_of s (run_before ds p (i + 1)) (judged ds i)
+        → Led (i + 1) n.stage (behind s r (judged ds i).difference n.stage)
+        (with_index i (numbers_with (least_with r (judged ds i).difference) n.event))
+    led_more i h l a n e =
+        let r = run_more ds p v i (omega (arith, known-first ds p v)) l in
+        let j : p.next + length (slice p.next i ds) ≡ i = omega (arith, length-slice p.next i ds (omega arith)) in
+        rw (decision_more ds p.next i h l, r) (rw j at (lead_more (judged ds i) n (rw r at e) a))
+
+    onward_led : (t : Turn) → p.next < t.to.place.next → IsPlace ds t.to.place → run_at ds t.to.place ≡ run_before ds p t.to.place.next
+        → Led t.to.place.next t.to.stage t.to.smallest (with_index (t.to.place.next - 1) (told_by t.told)) → Onward ds from t
+    onward_led t h w e a =
+        record {
+          later = h;
+          place = w;
+          state = a.state ∙ sym (λ j. tracked (e j) t.to.stage t.to.smallest);
+          events = a.told;
+        }
 
     -- what a search comes to
-    pub search_onward : {space : Bool} {stage next : Stage} → IsSearch space stage next → takes_bit stage ≡ false → (q : Option ℤ) (s : Sought)
-        → Seeks ds p space s → Onward ds p stage q (sought_to s stage next q)
-    search_onward {space} {stage} {next} f none q s k =
+    pub search_onward : {space : Bool} {next : Stage} → IsSearch space from.stage next → takes_bit from.stage ≡ false → (s : Sought)
+        → Seeks ds p space s → Onward ds from (sought_to s from next)
+    search_onward {space} {next} f none s k =
         let i : ℕ = s.place.next - 1 in
         let e : s.place.next - 1 + 1 ≡ s.place.next = omega (arith, k.later) in
         let h : p.next ≤ s.place.next - 1 = omega (arith, k.later) in
         let l : s.place.next - 1 < length ds = omega (arith, k.later, k.place.inside) in
-        let a : Led stage q i stage q [] = rw (run_on ds p v i h) at (searches f none q p.next (run_at ds p) (slice p.next i ds) k.none) in
-        onward_led stage q (sought_to s stage next q) k.later k.place k.run
+        let a : Led i from.stage from.smallest [] =
+        rw (run_on ds p v i h) at (searches f none from.smallest p.next (run_at ds p) (slice p.next i ds) k.none) in
+        onward_led (sought_to s from next) k.later k.place k.run
         (rw (e, none) at
-        (led_more stage q i h l a (quiet (cond s.found next stage))
-        (ap (λ (b : Bool). quiet (cond b next stage)) (k.last ∙ ap (λ (r : ℕ). is_found space r (judged ds i)) (k.run ∙ ap (run_before ds p) (sym e)))
+        (led_more i h l a (quiet (cond s.found next from.stage))
+        (ap (λ (b : Bool). quiet (cond b next from.stage)) (k.last ∙ ap (λ (r : ℕ). is_found space r (judged ds i)) (k.run ∙ ap (run_before ds p) (sym e)))
         ∙ sym (f.step (run_before ds p (i + 1)) (judged ds i)))))
 
     -- ---- a wait
 
-    module _ (wait slot byte : ℕ) (k : is_stage (Waiting wait slot byte) ≡ true) (q : Option ℤ) where
+    module _ (wait slot byte : ℕ) (w : from.stage ≡ Waiting wait slot byte) (k : is_stage from.stage ≡ true) where
+      waiting : is_stage (Waiting wait slot byte) ≡ true
+      waiting = rw w at k
+
       led_wait : (i : ℕ) → p.next ≤ i → i - p.next < wait → i ≤ length ds
-          → Led (Waiting wait slot byte) q i (Waiting (wait - (i - p.next)) slot byte) q []
+          → Led i (Waiting (wait - (i - p.next)) slot byte) from.smallest []
       led_wait i h b l =
           let n : length (slice p.next i ds) ≡ i - p.next = length-slice p.next i ds l in
-          rw (n, run_on ds p v i h) at (waits p.next (run_at ds p) wait slot byte q (slice p.next i ds) (rw n b))
+          rw w (rw (n, run_on ds p v i h) at (waits p.next (run_at ds p) wait slot byte from.smallest (slice p.next i ds) (rw n b)))
 
       -- it goes on to i
       pub wait_on : (i left : ℕ) → p.next < i → i - p.next < wait → i ≤ length ds → left ≡ wait - (i - p.next)
-          → Onward ds p (Waiting wait slot byte) q
-          (record { place = moved_to p i i; stage = Waiting left slot byte; smallest = q; event = None; difference = pos 0 })
-      wait_on i left h b l e =
-          rw e (onward_led (Waiting wait slot byte) q _ h (place_moved ds p v i (omega arith) l) refl (led_wait i (omega arith) b l))
+          → Onward ds from (quiet_at (record { place = moved_to p i i; stage = Waiting left slot byte; smallest = from.smallest }))
+      wait_on i left h b l e = rw e (onward_led _ h (place_moved ds p v i (omega arith) l) refl (led_wait i (omega arith) b l))
 
       -- the slot is taken at i
       module _ (i : ℕ) (e : i ≡ p.next + wait - 1) (l : i < length ds) (n : Next) (en : n ≡ wait_over slot byte (judged ds i))
-          (m : Measured) (em : m ≡ measured_by slot q (judged ds i).difference n.stage) where
+          (m : Measured) (em : m ≡ measured_by slot from.smallest (judged ds i).difference n.stage)
+          (told : Option Told) (et : told_by told ≡ numbers_with m.difference n.event) where
         low : 1 ≤ wait
-        low = wait_low wait slot (stage_wait wait slot byte k)
+        low = wait_low wait slot (stage_wait wait slot byte waiting)
 
         later_on : p.next ≤ i
         later_on = omega (arith, low)
 
-        led_slot : Led (Waiting wait slot byte) q (i + 1) n.stage m.smallest (with_index (i + 1 - 1) (numbers_with m.difference n.event))
+        led_slot : Led (i + 1) n.stage m.smallest (with_index (i + 1 - 1) (told_by told))
         led_slot =
             let one : wait - (i - p.next) ≡ 1 = omega (arith, low) in
             let last : i + 1 - 1 ≡ i = omega arith in
-            rw (last, em, slot-behind slot byte q (judged ds i).difference n.stage)
+            rw (et, last, em, slot-behind slot byte from.smallest (judged ds i).difference n.stage)
             (rw one at
-            (led_more (Waiting wait slot byte) q i later_on l (led_wait i later_on (omega (arith, low)) (omega arith)) n
-            (en ∙ sym (wait_parts (run_before ds p (i + 1)) (judged ds i) (wait - (i - p.next)) slot byte one (stage-slot wait slot byte k)))))
+            (led_more i later_on l (led_wait i later_on (omega (arith, low)) (omega arith)) n
+            (en ∙ sym (wait_parts (run_before ds p (i + 1)) (judged ds i) (wait - (i - p.next)) slot byte one (stage-slot wait slot byte waiting)))))
 
-        pub slot-taken : SlotTaken (Waiting wait slot byte) q i n m
+        pub slot-taken : SlotTaken i n m told
         slot-taken =
             record {
               good = λ g.
-                  onward_led (Waiting wait slot byte) q _ (omega (arith, later_on))
+                  onward_led _ (omega (arith, later_on))
                   (place-more ds p v i i (place_moved ds p v i later_on (omega arith)) l g) refl led_slot;
               bad = λ g.
-                  onward_led (Waiting wait slot byte) q _ (omega (arith, later_on)) (place_exact ds (i + 1) 0 (omega arith) (omega arith))
+                  onward_led _ (omega (arith, later_on)) (place_exact ds (i + 1) 0 (omega arith) (omega arith))
                   (run_exact ds (i + 1) 0 ∙ sym (run_bad ds p v i (omega (arith, later_on, known-first ds p v)) l g)) led_slot;
             }

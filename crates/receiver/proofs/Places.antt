@@ -14,8 +14,9 @@ use Rattle.control.specs.declared.Decision.{Decision}
 use Rattle.control.specs.Rules.{run_after}
 use Rattle.control.specs.AsCoded.{run_over}
 use Rattle.control.proofs.Stretches.{run_append, run-low, run_slow}
-use Rattle.receiver.specs.declared.moves.Place.{Place}
-use Rattle.receiver.specs.AsCoded.{unjudged, judged, IsPlace, run_before, run_at, exactly, moved_to}
+use Rattle.receiver.specs.declared.place.Place.{Place}
+use Rattle.receiver.specs.Weighed.{unjudged, judged}
+use Rattle.receiver.specs.AsCoded.{IsPlace, run_before, run_at, exactly, moved_to}
 
 module _ (ds : List Decision) where
   -- one decision more

@@ -65,7 +65,7 @@ state_kept s (x ∷ xs) h l =
 
 -- ---- an opening of a band gives its fresh state, which is in its ranges
 
-pub open_band : (band : ℕ) → is_band band ≡ true → (open_of band).receiver ≡ fresh band
+pub open_band : (band : ℕ) → is_band band ≡ true → (open_of band).state ≡ fresh band
 unfolding open_of
 open_band band h = rw h
 

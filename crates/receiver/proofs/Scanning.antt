@@ -1,255 +1,171 @@
--- The windows of a block, and the reading of them from place to place: what holds at each place, and at the end. From the decisions of
--- a list, the laws of places and those of a buffer being filled.
+-- The reading of a block's windows from place to place: what holds at each place, and at the end. From the laws of places and those of lists
+-- that are filled.
 -- Assumes nothing.
-use mathlib.Core.Path.{◌≡◌, sym, ap, ◌∙◌}
+use mathlib.Core.Path.{◌≡◌, refl, sym, ap, ◌∙◌}
 use mathlib.Core.Bool.{true}
-use mathlib.Core.List.{List, [], ◌++◌, map, map-id, map-map, map-append}
-use Prim.Native.Nat.{ℕ, ◌+◌, ◌-◌, ◌<◌, ◌≤◌, zero-le}
+use mathlib.Core.List.{List, [], ◌++◌, map, map-append}
+use Prim.Native.Nat.{ℕ, ◌+◌, ◌-◌, ◌≤◌, zero-le}
 use native.Mathlib.Omega.{arith}
+use Rattle.std.proofs.Common.{take-append-drop}
 use lib.IntN.{ℤ}
-use lib.ListN.{length, take, drop, length-append, length-drop, length-map, drop_of_length-le}
-use lib.Seq.{sets, length-take-le, drop-append-add, slice, length-slice}
-use Rattle.std.specs.Prelude.{Option}
-use Rattle.integers.proofs.Lists.{slice_rest}
+use lib.ListN.{length, take, drop, length-append, length-map}
+use lib.Seq.{sets, length-sets, take_all, slice, length-take-le}
+use Rattle.integers.proofs.Lists.{slice-join, sets_append}
 use Rattle.calls.specs.Runs.{after, indexed, with_index}
 use Rattle.calls.proofs.Runs.{run_laws}
-use Rattle.calls.proofs.Indexed.{indexed_values, indexed_append}
-use Rattle.calls.proofs.Filling.{Filling, filling_start, filling_more, filling_end}
-use Rattle.tones.proofs.Samples.{samples-take, samples-drop}
+use Rattle.calls.proofs.Indexed.{indexed_append}
 use Rattle.control.specs.declared.Decision.{Decision}
-use Rattle.control.specs.declared.Stage.{Stage}
 use Rattle.control.specs.Ranges.{is_control}
-use Rattle.control.specs.Rules.{numbers}
 use Rattle.control.proofs.Ranges.{control-run, follow_kept}
 use Rattle.quality.specs.declared.Tracked.{Tracked}
-use Rattle.quality.specs.Quality.{tracked_after, measured, track, measures, measures_from}
+use Rattle.quality.specs.Quality.{tracked_after, measured, track, measures_from}
 use Rattle.quality.proofs.Laws.{control_part}
-use Rattle.quality.proofs.Stretches.{tracked}
-use Rattle.receiver.specs.declared.moves.Place.{Place}
-use Rattle.receiver.specs.declared.scan.Reached.{Reached}
+use Rattle.receiver.specs.declared.place.Place.{Place}
+use Rattle.receiver.specs.declared.filling.Lists.{Lists}
+use Rattle.receiver.specs.declared.scan.Standing.{Standing}
 use Rattle.receiver.specs.declared.scan.Turn.{Turn}
-use Rattle.receiver.specs.AsCoded.{IsWindow, decision_by, reached_by, recorded, IsSource, decisions_by, unjudged, judged, IsPlace, run_at, control_at, state_at, exactly, told_by, Onward, numbers_of, differences_of, indices_by}
-use Rattle.receiver.proofs.Windows.{length-decisions, decisions-at}
+use Rattle.receiver.specs.Lent.{told_by, numbers_told, differences_told, Put}
+use Rattle.receiver.specs.AsCoded.{IsPlace, state_at, exactly, Onward}
 use Rattle.receiver.proofs.Places.{place_exact, run_exact}
 
--- ---- the windows of a block
+-- ---- lists that are filled
 
-module _ {weights head xs : List ℤ} (s : IsSource weights head xs) where
-  before : length (take 31 (drop 1 head)) ≡ 31
-  before = length-take-le 31 (drop 1 head) (omega (arith, length-drop 1 head, s.long))
+pub put_none : (l : Lists) → Put l l []
+put_none l =
+    record { count = omega arith; events = refl; differences = refl; indices = refl; same = record { events = refl; differences = refl; indices = refl } }
 
-  recorded-long : length (recorded head xs) ≡ 31 + length xs
-  recorded-long = length-append (take 31 (drop 1 head)) xs ∙ ap (λ (n : ℕ). n + length xs) before
+-- one side of events put behind others
+side_more : {A : Type 0} (f : (ℕ × ℤ) × ℕ → A) (xs ys : List ((ℕ × ℤ) × ℕ)) (l m n : List A) (i j : ℕ) → j ≡ i + length xs
+    → m ≡ sets l i (map f xs) → n ≡ sets m j (map f ys) → n ≡ sets l i (map f (xs ++ ys))
+side_more f xs ys l m n i j e a b =
+    b
+    ∙ ap (λ (k : ℕ). sets m k (map f ys)) (e ∙ ap (λ (k : ℕ). i + k) (sym (length-map xs f)))
+    ∙ ap (λ (u : List _). sets u (i + length (map f xs)) (map f ys)) a
+    ∙ sym (sets_append l i (map f xs) (map f ys))
+    ∙ ap (sets l i) (sym (map-append f xs ys))
 
-  -- one ends with each sample
-  pub window-each : length (decisions_by weights head xs) ≡ length xs
-  window-each = omega (arith, length-decisions (decision_by weights) (recorded head xs), recorded-long)
-
-  module _ (i : ℕ) (l : i < length xs) (window : List ℤ) (e : window ≡ take 32 (drop i (recorded head xs))) where
-    pub window-is : IsWindow window
-    window-is =
-        rw e
-        (record {
-          long = length-take-le 32 (drop i (recorded head xs)) (omega (arith, length-drop i (recorded head xs), recorded-long));
-          samples = samples-take 32 (drop i (recorded head xs)) (samples-drop i (recorded head xs) s.inside);
-        })
-
-    pub window-judged : decision_by weights window ≡ judged (decisions_by weights head xs) i
-    window-judged =
-        ap (decision_by weights) e
-        ∙ sym (decisions-at (decision_by weights) i (recorded head xs) unjudged (omega (arith, recorded-long)))
-
-  -- where the code finds it: in the head, or in the block
-  pub window-begun : (i : ℕ) → i < 31 → i < length xs → take (i + 33 - (i + 1)) (drop (i + 1) head) ≡ take 32 (drop i (recorded head xs))
-  window-begun i h l = let e : i + 33 - (i + 1) ≡ 32 = omega arith in ap (λ (n : ℕ). take n (drop (i + 1) head)) e ∙ s.begun i h l
-
-  pub window-whole : (i : ℕ) → 31 ≤ i → take (i + 1 - (i - 31)) (drop (i - 31) xs) ≡ take 32 (drop i (recorded head xs))
-  window-whole i h =
-      let e : i + 1 - (i - 31) ≡ 32 = omega arith in
-      let f : i ≡ 31 + (i - 31) = omega arith in
-      ap (λ (n : ℕ). take n (drop (i - 31) xs)) e
-      ∙ sym (ap (λ (n : ℕ). take 32 (drop n (recorded head xs))) f ∙ ap (take 32) (rw before at (drop-append-add (take 31 (drop 1 head)) xs (i - 31))))
+pub put_more : {l m n : Lists} {xs ys : List ((ℕ × ℤ) × ℕ)} → Put l m xs → Put m n ys → Put l n (xs ++ ys)
+put_more {l} {m} {n} {xs} {ys} a b =
+    record {
+      count = omega (arith, a.count, b.count, length-append xs ys);
+      events = side_more (λ (e : (ℕ × ℤ) × ℕ). e.0.0) xs ys _ _ _ _ _ a.count a.events b.events;
+      differences = side_more (λ (e : (ℕ × ℤ) × ℕ). e.0.1) xs ys _ _ _ _ _ a.count a.differences b.differences;
+      indices = side_more (λ (e : (ℕ × ℤ) × ℕ). e.1) xs ys _ _ _ _ _ a.count a.indices b.indices;
+      same =
+          record {
+            events = b.same.events ∙ a.same.events;
+            differences = b.same.differences ∙ a.same.differences;
+            indices = b.same.indices ∙ a.same.indices;
+          };
+    }
 
 -- ---- from place to place
 
--- the three sides of what is told
-abbrev number_in : (ℕ × ℤ) × ℕ → ℕ
-number_in e = e.0.0
+module _ (ds : List Decision) (c : Tracked) where
+  -- what the first n decisions lead to, and the events that they bring
+  abbrev track_to : ℕ → Tracked
+  track_to n = track c (take n ds)
 
-abbrev difference_in : (ℕ × ℤ) × ℕ → ℤ
-difference_in e = e.0.1
+  abbrev told_to : ℕ → List ((ℕ × ℤ) × ℕ)
+  told_to n = measures_from 0 c (take n ds)
 
-abbrev index_in : (ℕ × ℤ) × ℕ → ℕ
-index_in e = e.1
+  -- the reading has come to `at`, and the events so far are put to the lists
+  pub record Scanning (start now : Lists) (at : Standing) : Type 0 where
+    pub place : IsPlace ds at.place
+    pub reached : state_at ds at ≡ track_to at.place.next
+    pub told : Put start now (told_to at.place.next)
 
-module _ (ds : List Decision) (lent : List ℕ) (lent-differences : List ℤ) (lent-indices : List ℕ) (c : Tracked) where
-  -- all that is told, and what is still to be, from a place on
-  abbrev all : List ((ℕ × ℤ) × ℕ)
-  all = measures_from 0 c ds
-
-  abbrev rest : Place → Stage → Option ℤ → List ((ℕ × ℤ) × ℕ)
-  rest at stage q = measures_from at.next (state_at ds at stage q) (drop at.next ds)
-
-  -- the reading has come to this place, stage and difference, and the events so far stand in `events`, with their differences in `noted` and
-  -- their indices in `told`
-  pub record Scanning (events : List ℕ) (noted : List ℤ) (told : List ℕ) (at : Place) (stage : Stage) (q : Option ℤ) (count : ℕ) : Type 0 where
-    pub place : IsPlace ds at
-    pub control : is_control (control_at ds at stage) ≡ true
-    pub reached : track (state_at ds at stage q) (drop at.next ds) ≡ track c ds
-    pub filled : Filling lent 0 (map number_in all) events count (map number_in (rest at stage q))
-    pub measured : Filling lent-differences 0 (map difference_in all) noted count (map difference_in (rest at stage q))
-    pub indexed : Filling lent-indices 0 (map index_in all) told count (map index_in (rest at stage q))
-    pub counted : count + length (rest at stage q) ≡ length all
-
-  pub scanning_start : is_control c.control ≡ true → (at : Place) → at ≡ exactly 0 c.control.run
-      → Scanning lent lent-differences lent-indices at c.control.stage c.smallest 0
-  scanning_start h at e =
+  pub scanning_start : is_control c.control ≡ true → (l : Lists) (place : Place) → place ≡ exactly 0 c.control.run
+      → Scanning l l (record { place = place; stage = c.control.stage; smallest = c.smallest })
+  unfolding after indexed
+  scanning_start h l place e =
       let run : ℕ = c.control.run in
-      let here : state_at ds (exactly 0 run) c.control.stage c.smallest ≡ c =
-      (λ i. record { control = record { run = run_exact ds 0 run i; stage = c.control.stage }; smallest = c.smallest }) in
       rw e
       (record {
         place = place_exact ds 0 run zero-le (control-run c.control h);
-        control = ap (λ (u : Tracked). is_control u.control) here ∙ h;
-        reached = ap (λ (u : Tracked). track u ds) here;
-        filled = rw here (filling_start lent 0 (map number_in all));
-        measured = rw here (filling_start lent-differences 0 (map difference_in all));
-        indexed = rw here (filling_start lent-indices 0 (map index_in all));
-        counted = omega (arith, ap (λ (u : Tracked). length (measures_from 0 u ds)) here);
+        reached = λ i. record { control = record { run = run_exact ds 0 run i; stage = c.control.stage }; smallest = c.smallest };
+        told = put_none l;
       })
 
-  module _ {events : List ℕ} {noted : List ℤ} {told : List ℕ} {at : Place} {stage : Stage} {q : Option ℤ} {count : ℕ}
-      (s : Scanning events noted told at stage q count) where
-    -- read on
-    module _ (t : Turn) (o : Onward ds at stage q t) where
-      abbrev here : Tracked
-      here = state_at ds at stage q
+  -- ---- at a place
+
+  module _ {start now : Lists} {at : Standing} (s : Scanning start now at) where
+    abbrev n : ℕ
+    n = at.place.next
+
+    front_long : length (take n ds) ≡ n
+    front_long = length-take-le n ds s.place.inside
+
+    pub scanning_control : is_control c.control ≡ true → is_control (state_at ds at).control ≡ true
+    scanning_control h =
+        ap (λ (u : Tracked). is_control u.control) s.reached ∙ ap is_control (control_part c (take n ds)) ∙ follow_kept c.control (take n ds) h
+
+    -- ---- read on
+
+    module _ (t : Turn) (o : Onward ds at t) where
+      abbrev m : ℕ
+      m = t.to.place.next
 
       abbrev gone : List Decision
-      gone = slice at.next t.place.next ds
+      gone = slice n m ds
 
-      abbrev left : List Decision
-      left = drop t.place.next ds
+      abbrev new : List ((ℕ × ℤ) × ℕ)
+      new = with_index (m - 1) (told_by t.told)
 
-      abbrev after_turn : List ((ℕ × ℤ) × ℕ)
-      after_turn = rest t.place t.stage t.smallest
+      front_more : take m ds ≡ take n ds ++ gone
+      front_more = slice-join ds 0 n m zero-le (omega (arith, o.later)) s.place.inside
 
-      -- the events of the turn, and the index that each of them has
-      abbrev new : List ℕ
-      new = numbers t.event
+      track_more : track_to m ≡ state_at ds t.to
+      track_more =
+          ap (track c) front_more
+          ∙ (run_laws tracked_after measured).after_append c (take n ds) gone
+          ∙ ap (λ (u : Tracked). track u gone) (sym s.reached)
+          ∙ o.state
 
-      abbrev index : ℕ
-      index = t.place.next - 1
+      told_more : told_to m ≡ told_to n ++ new
+      told_more =
+          let at_n : 0 + length (take n ds) ≡ n = omega (arith, front_long) in
+          ap (measures_from 0 c) front_more
+          ∙ indexed_append tracked_after measured 0 c (take n ds) gone
+          ∙ (λ i. told_to n ++ measures_from (at_n i) (sym s.reached i) gone)
+          ∙ ap (λ (l : List ((ℕ × ℤ) × ℕ)). told_to n ++ l) o.events
 
-      parts : drop at.next ds ≡ gone ++ left
-      parts = slice_rest ds at.next t.place.next (omega (arith, o.later)) s.place.inside
+      pub scanning_more : {then : Lists} → Put now then new → Scanning start then t.to
+      scanning_more a = record { place = o.place; reached = sym track_more; told = rw told_more (put_more s.told a) }
 
-      reached_next : track (state_at ds t.place t.stage t.smallest) left ≡ track here (drop at.next ds)
-      reached_next =
-          sym
-          (ap (track here) parts
-          ∙ (run_laws tracked_after measured).after_append here gone left
-          ∙ ap (λ (u : Tracked). track u left) o.state)
-
-      rest_next : rest at stage q ≡ with_index index (told_by t) ++ after_turn
-      rest_next =
-          let e : at.next + length gone ≡ t.place.next =
-          omega (arith, length-slice at.next t.place.next ds o.place.inside, o.later) in
-          ap (measures_from at.next here) parts
-          ∙ indexed_append tracked_after measured at.next here gone left
-          ∙ (λ i. o.events i ++ measures_from (e i) (o.state i) left)
-
-      -- what the turn adds to one of the lists
-      module _ {A : Type 0} (f : (ℕ × ℤ) × ℕ → A) where
-        abbrev added : List A
-        added = map (λ (n : ℕ). f ((n, t.difference), index)) new
-
-        side_next : map f (rest at stage q) ≡ added ++ map f after_turn
-        side_next =
-            ap (map f) rest_next
-            ∙ map-append f (with_index index (told_by t)) after_turn
-            ∙ ap (λ (l : List A). l ++ map f after_turn)
-            (map-map f (λ (e : ℕ × ℤ). (e, index)) (told_by t) ∙ map-map (λ (e : ℕ × ℤ). f (e, index)) (λ (n : ℕ). (n, t.difference)) new)
-
-        side_more : {given now : List A} → Filling given 0 (map f all) now count (map f (rest at stage q))
-            → Filling given 0 (map f all) (sets now count added) (count + length new) (map f after_turn)
-        side_more h =
-            rw (length-map new (λ (n : ℕ). f ((n, t.difference), index))) at (filling_more added (map f after_turn) (rw side_next at h))
-
-      count_next : length (rest at stage q) ≡ length new + length after_turn
-      count_next =
-          ap length rest_next
-          ∙ length-append (with_index index (told_by t)) after_turn
-          ∙ ap (λ (n : ℕ). n + length after_turn) (length-map (told_by t) (λ e. (e, index)) ∙ length-map new (λ n. (n, t.difference)))
-
-      -- a list with places for all that is told has those of the turn
-      room : (given now : ℕ) → now ≡ given → length (measures c ds) ≤ given → count + length new ≤ now
-      room given now e h =
-          omega (arith, count_next, s.counted, ap length (indexed_values tracked_after measured 0 c ds), length-map all (λ (p : (ℕ × ℤ) × ℕ). p.0))
-
-      pub scanning_room : (length (measures c ds) ≤ length lent) × (length (measures c ds) ≤ length lent-differences)
-          → (count + length new ≤ length events) × (count + length new ≤ length noted)
-      scanning_room h =
-          (room (length lent) (length events) s.filled.long h.0, room (length lent-differences) (length noted) s.measured.long h.1)
-
-      pub scanning_more : (events' : List ℕ) (noted' : List ℤ) (told' : List ℕ) (count' : ℕ) → count' ≡ count + length new
-          → events' ≡ sets events count new → noted' ≡ sets noted count (map (λ n. t.difference) new) → told' ≡ sets told count (map (λ n. index) new)
-          → Scanning events' noted' told' t.place t.stage t.smallest count'
-      scanning_more events' noted' told' count' en ee ed ei =
-          rw (en, ee, ed, ei)
-          (record {
-            place = o.place;
-            control =
-                sym (ap (λ (u : Tracked). is_control u.control) o.state) ∙ ap is_control (control_part here gone)
-                ∙ follow_kept (control_at ds at stage) gone s.control;
-            reached = reached_next ∙ s.reached;
-            filled = rw (map-id new) at (side_more number_in s.filled);
-            measured = side_more difference_in s.measured;
-            indexed = side_more index_in s.indexed;
-            counted = omega (arith, count_next, s.counted);
-          })
-
-    -- no window is left
-    module _ (h : length ds ≤ at.next) where
-      last : drop at.next ds ≡ []
-      last = drop_of_length-le ds {i = at.next} h
-
-      nothing : rest at stage q ≡ []
-      unfolding indexed
-      nothing = ap (measures_from at.next (state_at ds at stage q)) last
-
-      at_end : state_at ds at stage q ≡ track c ds
-      unfolding after
-      at_end = sym (ap (track (state_at ds at stage q)) last) ∙ s.reached
-
-      counted_end : count ≡ length (measures c ds)
-      counted_end =
+      -- the events of the turn are among all
+      new_long : now.count + length (told_by t.told) ≤ start.count + length (measures_from 0 c ds)
+      new_long =
+          let rest : List ((ℕ × ℤ) × ℕ) = measures_from (0 + length (take m ds)) (track_to m) (drop m ds) in
+          let all : measures_from 0 c ds ≡ told_to m ++ rest =
+          ap (measures_from 0 c) (sym (take-append-drop m ds)) ∙ indexed_append tracked_after measured 0 c (take m ds) (drop m ds) in
           omega (
             arith,
-            ap length nothing,
-            s.counted,
-            ap length (indexed_values tracked_after measured 0 c ds),
-            length-map all (λ (p : (ℕ × ℤ) × ℕ). p.0),
+            s.told.count,
+            ap length all,
+            length-append (told_to m) rest,
+            ap length told_more,
+            length-append (told_to n) new,
+            length-map {B = (ℕ × ℤ) × ℕ} (told_by t.told) (λ e. (e, m - 1)),
           )
 
-      pub scanning_reached : (run : ℕ) → run ≡ run_at ds at
-          → ◌≡◌ {A = Reached} (record { state = tracked run stage q; count = count }) (reached_by c ds)
-      scanning_reached run e i =
-          record { state = ((λ j. tracked (e j) stage q) ∙ at_end) i; count = counted_end i }
+      pub scanning_room : start.count + length (measures_from 0 c ds) ≤ length start.events.now
+          → now.count + length (told_by t.told) ≤ length now.events.now
+      scanning_room h = omega (arith, new_long, ap length s.told.events, length-sets start.events.now start.count (numbers_told (told_to n)))
 
-      -- one of the lists, by the events with their differences
-      side_end : {A : Type 0} (f : ℕ × ℤ → A) {given now : List A}
-          → Filling given 0 (map (λ (p : (ℕ × ℤ) × ℕ). f p.0) all) now count (map (λ (p : (ℕ × ℤ) × ℕ). f p.0) (rest at stage q))
-          → now ≡ sets given 0 (map f (measures c ds))
-      side_end f {given} h =
-          filling_end (rw nothing at h)
-          ∙ ap (sets given 0) (sym (map-map f (λ (p : (ℕ × ℤ) × ℕ). p.0) all) ∙ ap (map f) (indexed_values tracked_after measured 0 c ds))
+      pub scanning_room_differences : start.count + length (measures_from 0 c ds) ≤ length start.differences.now
+          → now.count + length (told_by t.told) ≤ length now.differences.now
+      scanning_room_differences h =
+          omega (arith, new_long, ap length s.told.differences, length-sets start.differences.now start.count (differences_told (told_to n)))
 
-      pub scanning_events : events ≡ sets lent 0 (numbers_of (measures c ds))
-      scanning_events = side_end (λ (e : ℕ × ℤ). e.0) s.filled
+    -- ---- no window is left
 
-      pub scanning_differences : noted ≡ sets lent-differences 0 (differences_of (measures c ds))
-      scanning_differences = side_end (λ (e : ℕ × ℤ). e.1) s.measured
+    module _ (h : length ds ≤ n) where
+      all_gone : take n ds ≡ ds
+      all_gone = take_all n ds h
 
-      pub scanning_indices : told ≡ sets lent-indices 0 (indices_by c ds)
-      scanning_indices = filling_end (rw nothing at s.indexed)
+      pub scanning_reached : state_at ds at ≡ track c ds
+      scanning_reached = s.reached ∙ ap (track c) all_gone
+
+      pub scanning_told : Put start now (measures_from 0 c ds)
+      scanning_told = rw all_gone at s.told

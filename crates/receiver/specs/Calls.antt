@@ -3,14 +3,13 @@
 -- Assumes nothing.
 use Rattle.std.specs.Prelude.{Bool, cond, not, ◌&&◌, List, [], ◌∷◌, ℕ, ◌+◌, ◌/◌, min, ltb, ℤ, pos, length, replicate, None}
 use Rattle.calls.specs.Refusals.{Test, test, first_of}
-use Rattle.calls.specs.Outcome.{Outcome, Lending, unless_refused, accepted_in, one_list, both_in}
+use Rattle.calls.specs.Outcome.{Outcome, Opening, Lending, unless_refused, accepted_in, one_list, both_in}
 use Rattle.tones.specs.Bands.{is_band}
 use Rattle.tones.specs.Samples.{most_samples, are_samples}
 use Rattle.control.specs.declared.Stage.TheVariants.{Searching}
 use Rattle.control.specs.Ranges.{is_control}
 use Rattle.quality.specs.Quality.{is_kept}
 use Rattle.receiver.specs.declared.Receiver.{Receiver}
-use Rattle.receiver.specs.declared.Opened.{Opened}
 use Rattle.receiver.specs.Step.{control_of, state_after, measured_after, indexed_after}
 
 -- ---- opening
@@ -23,8 +22,8 @@ fresh band = record { band = band; window = replicate 32 (pos 0); run = 0; stage
 abbrev pub open_tests : ℕ → List Test
 open_tests band = test 1 (not (is_band band)) ∷ []
 
-unfoldable pub open_of : ℕ → Opened
-open_of band = record { number = first_of (open_tests band); receiver = fresh (cond (is_band band) band 1) }
+unfoldable pub open_of : ℕ → Opening Receiver
+open_of band = record { number = first_of (open_tests band); state = fresh (cond (is_band band) band 1) }
 
 -- ---- the ranges of a state
 

@@ -1,32 +1,24 @@
-// The two ends of a block, where its samples meet the window: the head, which is the old window with the first samples behind it, and the
-// last window.
-ghost use Rattle.std.specs.Prelude.{◌≡◌, ◌++◌, ◌+◌, ◌≤◌, length, take};
-ghost use Rattle.receiver.specs.AsCoded.{last_window};
+// The two ends of a block, where its samples meet the window: the head, and the last window.
+ghost use Rattle.std.specs.Prelude.{◌≡◌, ◌++◌, ◌+◌, length, min, take, drop};
 
-// The old window, with the first n samples behind it.
-pub(crate) fn joined(old: &[i16; 32], samples: &[i16], n: usize) -> [i16; 64]
-    requires { (n ≤ 31) × (n ≤ length samples.now) }
-    ensures { (length result ≡ 64) × (take (32 + n) result ≡ old.now ++ take n samples.now) }
+// The old window, with at most 31 samples of the block behind it.
+pub(crate) fn head(window: &[i16; 32], samples: &[i16]) -> [i16; 64]
+    ensures { let n = min (length samples.now) 31 in take (32 + n) result ≡ window.now ++ take n samples.now }
 {
     let mut head = [0i16; 64];
-    calls::put(&mut head, 0, old);
-    calls::put(&mut head, 32, &samples[..n]);
+    let n = samples.len().min(31);
+    head[..32].copy_from_slice(window);
+    head[32..32 + n].copy_from_slice(&samples[..n]);
     head
 }
 
-// The last 32 samples: they begin in `head` if the block is short.
-pub(crate) fn last_window(head: &[i16], samples: &[i16]) -> [i16; 32]
-    requires { length head.now ≡ 64 }
-    ensures { result ≡ last_window head.now samples.now }
+// The last 32 of the window and the samples.
+pub(crate) fn last_window(window: &[i16; 32], samples: &[i16]) -> [i16; 32]
+    ensures { result ≡ drop (length samples.now) (window.now ++ samples.now) }
 {
-    let mut window = [0i16; 32];
-    let len = samples.len();
-    if len < 32 {
-        let end = len + 32;
-        calls::put(&mut window, 0, &head[len..end]);
-    } else {
-        let start = len - 32;
-        calls::put(&mut window, 0, &samples[start..len]);
-    }
-    window
+    let mut last = [0i16; 32];
+    let n = samples.len().min(32);
+    last[..32 - n].copy_from_slice(&window[n..]);
+    last[32 - n..].copy_from_slice(&samples[samples.len() - n..]);
+    last
 }

@@ -3,21 +3,27 @@
 #![tactic(auto)]
 
 ghost use Rattle.std.specs.Prelude.{◌≡◌, ◌≤◌, length};
-ghost use Rattle.calls.specs.Refusals.{first_of};
-ghost use Rattle.calls.specs.Outcome.{outcome};
+ghost use Rattle.calls.specs.Refusals.{refusal_number, first_of};
+ghost use Rattle.calls.specs.Outcome.{as_answer, opened, outcome};
+ghost use Rattle.receiver.specs.Step.{tracked_of};
 ghost use Rattle.receiver.specs.Calls.{open_of, in_range, block_tests, block_of, indexed_of};
+ghost use Rattle.receiver.specs.Lent.{SameLists};
 ghost use Rattle.receiver.specs.AsCoded.{block_in, indices_in};
 
 mod block;
 mod ends;
 mod energy;
-mod moves;
+mod filling;
 mod opening;
+mod place;
 mod scan;
 mod seek;
+mod source;
 
-use calls::Answer;
+use crate::filling::Lists;
+use calls::{Answered, Refusal};
 use control::{Control, Stage};
+use quality::Tracked;
 
 // The most events of a block: the places that the longest one needs.
 pub const MOST_EVENTS: usize = tones::MOST_SAMPLES / 48 + 1;
@@ -33,46 +39,44 @@ pub struct Receiver {
     pub smallest: Option<i64>,
 }
 
-// What an opening answers: 0 and the fresh state, or the number of a refusal and the fresh state of band 1.
-#[derive(Clone, Copy)]
-pub struct Opened {
-    pub number: u8,
-    pub receiver: Receiver,
-}
-
-// What a block call answers: the next state, and the number with the count of events.
-#[derive(Clone, Copy)]
-pub struct Reading {
-    pub receiver: Receiver,
-    pub answer: Answer,
-}
-
 impl Receiver {
-    // The fresh state of a band: the specification's opening.
-    pub fn open(band: u8) -> Opened
-        ensures { result ≡ open_of band }
+    // The fresh state of a band: the specification's opening. A refused one gives the fresh state of band 1.
+    pub fn open(band: u8) -> Answered<Receiver, ()>
+        ensures { opened result ≡ open_of band }
     {
         if tones::is_band(band) {
-            Opened {
-                number: 0,
-                receiver: opening::fresh(band),
+            Answered {
+                state: opening::fresh(band),
+                answer: Ok(()),
             }
         } else {
-            Opened {
-                number: 1,
-                receiver: opening::fresh(1),
+            Answered {
+                state: opening::fresh(1),
+                answer: Err(Refusal::UnknownBand),
             }
         }
     }
 
-    // Reads a block of samples: the numbers of its events go to `events`, and the difference of each to its place in `differences`.
-    pub fn block(self, samples: &[i16], events: &mut [u16], differences: &mut [i64]) -> Reading
-        ensures { outcome result.answer result.receiver (events.new, differences.new)
+    // Reads a block of samples: the numbers of its events go to `events`, and the difference of each to its place in `differences`. It
+    // answers how many there are.
+    pub fn block(
+        self,
+        samples: &[i16],
+        events: &mut [u16],
+        differences: &mut [i64],
+    ) -> Answered<Receiver, usize>
+        ensures { outcome (as_answer result.answer) result.state (events.new, differences.new)
             ≡ block_of self samples.now (events.old, differences.old) }
     {
+        let places = events.len().min(differences.len());
         let mut none = [0u16; 0];
-        let places = moves::least(events.len(), differences.len());
-        self.block_in(samples, events, differences, &mut none, places)
+        let mut lists = Lists {
+            events,
+            differences,
+            indices: &mut none,
+            count: 0,
+        };
+        self.block_in(samples, places, &mut lists)
     }
 
     // Reads a block of samples, and tells with which of them each event came: the index in the block goes to the event's place in
@@ -83,84 +87,88 @@ impl Receiver {
         events: &mut [u16],
         differences: &mut [i64],
         indices: &mut [u16],
-    ) -> Reading
-        ensures { outcome result.answer result.receiver ((events.new, differences.new), indices.new)
+    ) -> Answered<Receiver, usize>
+        ensures { outcome (as_answer result.answer) result.state ((events.new, differences.new), indices.new)
             ≡ indexed_of self samples.now ((events.old, differences.old), indices.old) }
     {
-        let both = moves::least(events.len(), differences.len());
-        let places = moves::least(both, indices.len());
-        self.block_in(samples, events, differences, indices, places)
+        let places = events.len().min(differences.len()).min(indices.len());
+        let mut lists = Lists {
+            events,
+            differences,
+            indices,
+            count: 0,
+        };
+        self.block_in(samples, places, &mut lists)
     }
 
-    // Reads a block with so many places of `events` and `differences`, and tells the indices as far as there are places for them.
+    // Reads a block with so many places of the lists, and tells the indices as far as there are places for them.
     fn block_in(
         self,
         samples: &[i16],
-        events: &mut [u16],
-        differences: &mut [i64],
-        indices: &mut [u16],
         places: usize,
-    ) -> Reading
-        requires { (places ≤ length events.old) × (places ≤ length differences.old) }
-        ensures read { outcome result.answer result.receiver (events.new, differences.new)
-            ≡ block_in self samples.now places (events.old, differences.old) }
-        ensures told { indices.new ≡ indices_in self samples.now places indices.old }
+        lists: &mut Lists,
+    ) -> Answered<Receiver, usize>
+        requires empty { lists.old.count ≡ 0 }
+        requires events { places ≤ length lists.old.events.now }
+        requires differences { places ≤ length lists.old.differences.now }
+        ensures read { outcome (as_answer result.answer) result.state (lists.new.events.now, lists.new.differences.now)
+            ≡ block_in self samples.now places (lists.old.events.now, lists.old.differences.now) }
+        ensures told { lists.new.indices.now ≡ indices_in self samples.now places lists.old.indices.now }
+        ensures same { SameLists lists.old lists.new }
     {
-        let number = self.refusal(samples, places);
-        if number != 0 {
-            return self.refused(number);
+        if let Err(refusal) = self.check(samples, places) {
+            return Answered {
+                state: self,
+                answer: Err(refusal),
+            };
         }
-        block::read(self, samples, events, differences, indices)
+        let state = block::read(self, samples, lists);
+        Answered {
+            state,
+            answer: Ok(lists.count),
+        }
     }
 
-    // The number of the first reason to refuse a block with so many places lent, or 0.
-    fn refusal(self, samples: &[i16], places: usize) -> u8
-        ensures { result ≡ first_of (block_tests self samples.now places) }
+    // The first reason to refuse a block with so many places lent.
+    fn check(&self, samples: &[i16], places: usize) -> Result<(), Refusal>
+        ensures { refusal_number result ≡ first_of (block_tests self.now samples.now places) }
     {
         if !self.in_range() {
-            return 2;
+            return Err(Refusal::StateOutOfRange);
         }
-        if tones::MOST_SAMPLES < samples.len() {
-            return 3;
+        if samples.len() > tones::MOST_SAMPLES {
+            return Err(Refusal::TooMany);
         }
-        let sound = tones::are_samples(samples);
-        let fits = samples.len() / 48 + 1 <= places;
-        if !sound {
-            return 5;
+        if !tones::are_samples(samples) {
+            return Err(Refusal::SampleOutOfRange);
         }
-        if !fits {
-            return 4;
+        if places < samples.len() / 48 + 1 {
+            return Err(Refusal::TooFewPlaces);
         }
-        0
+        Ok(())
     }
 
     // The state is in its ranges.
-    fn in_range(self) -> bool
-        ensures { result ≡ in_range self }
+    #[tactic(auto, unfolding(crate::specs::Calls::in_range))]
+    fn in_range(&self) -> bool
+        ensures { result ≡ in_range self.now }
     {
-        let window = self.window;
-        let stage = self.stage;
-        let smallest = self.smallest;
-        if !tones::is_band(self.band) {
-            return false;
-        }
-        if !tones::are_samples(&window) {
-            return false;
-        }
-        let kept = quality::is_kept(stage, smallest);
-        control::is_control(Control {
-            run: self.run,
-            stage,
-        }) && kept
+        tones::is_band(self.band)
+            && tones::are_samples(&self.window)
+            && control::is_control(self.tracked().control)
+            && quality::is_kept(self.stage, self.smallest)
     }
 
-    // The state as handed, beside the number of a refusal.
-    fn refused(self, number: u8) -> Reading
-        ensures { result ≡ record { receiver = self; answer = record { number = number; count = 0 } } }
+    // What decisions move of it.
+    fn tracked(&self) -> Tracked
+        ensures { result ≡ tracked_of self.now }
     {
-        Reading {
-            receiver: self,
-            answer: Answer { number, count: 0 },
+        Tracked {
+            control: Control {
+                run: self.run,
+                stage: self.stage,
+            },
+            smallest: self.smallest,
         }
     }
 }

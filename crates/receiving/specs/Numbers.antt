@@ -2,12 +2,13 @@
 -- and "Refused calls".
 -- Assumes nothing.
 use Rattle.std.specs.Prelude.{cond, List, ℕ, eqb, ℤ, pos, negsuc, Option, Some, None}
-use Rattle.calls.specs.Outcome.{Outcome}
+use Rattle.calls.specs.declared.Answer.{Answer}
+use Rattle.calls.specs.declared.Answered.{Answered}
+use Rattle.calls.specs.Outcome as calls
+use Rattle.calls.specs.Outcome.{Outcome, as_answer}
 use Rattle.control.specs.declared.Stage.{Stage}
 use Rattle.control.specs.declared.Stage.TheVariants.{Searching, Waiting, Held}
 use Rattle.receiver.specs.declared.Receiver.{Receiver}
-use Rattle.receiver.specs.declared.Opened.{Opened}
-use Rattle.receiver.specs.declared.Reading.{Reading}
 use Rattle.receiver.specs.Calls.{EventLists, block_of, indexed_of}
 use Rattle.receiving.specs.declared.State.{State}
 use Rattle.receiving.specs.declared.Opening.{Opening}
@@ -68,17 +69,18 @@ numbers_of r =
 -- ---- the calls
 
 -- what an opening answers
-abbrev pub opened_numbers : Opened → Opening
-opened_numbers o = record { number = o.number; receiver = numbers_of o.receiver }
+abbrev pub opened_numbers : calls.Opening Receiver → Opening
+opened_numbers o = record { number = o.number; receiver = numbers_of o.state }
 
 -- the state that a block call with this number hands back: the numbers of the next one if it is accepted, and those handed if not
 abbrev pub next_numbers : ℕ → Receiver → State → State
 next_numbers number next handed = cond (eqb number 0) (numbers_of next) handed
 
 -- what is handed back of a reading, and of an outcome
-abbrev pub reading_numbers : Reading → State → Block
+abbrev pub reading_numbers : Answered Receiver ℕ → State → Block
 reading_numbers r handed =
-    record { receiver = next_numbers r.answer.number r.receiver handed; number = r.answer.number; count = r.answer.count }
+    let a : Answer = as_answer r.answer in
+    record { receiver = next_numbers a.number r.state handed; number = a.number; count = a.count }
 
 abbrev pub outcome_numbers : {L : Type 0} → State → Outcome Receiver L → Outcome State L
 outcome_numbers handed o =

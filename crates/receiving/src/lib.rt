@@ -9,8 +9,9 @@ ghost use Rattle.receiving.specs.Numbers.{receiver_of, numbers_of, opened_number
 
 pub mod testing;
 
+use calls::{Answer, Answered};
 use control::Stage;
-use receiver::{Reading, Receiver};
+use receiver::Receiver;
 
 // A receiver's state as numbers, since C has no enums with fields. Stage 0 is searching, stage 1 is waiting, with its wait, slot and byte, and stage 2 is a held break; where
 // a call gives 0 or 2, these three are 0. Any other stage is out of its range. Where `measured` is 1, `smallest` is the smallest difference so
@@ -53,8 +54,11 @@ pub fn modem_receiver_open(band: u8) -> Opening
 {
     let opened = Receiver::open(band);
     Opening {
-        number: opened.number,
-        receiver: State::from(opened.receiver),
+        number: match opened.answer {
+            Ok(()) => 0,
+            Err(refusal) => refusal.into(),
+        },
+        receiver: State::from(opened.state),
     }
 }
 
@@ -90,14 +94,14 @@ pub fn modem_receiver_block_indexed(
 
 // What a block call on a state hands back, from what an entry of the receiver gave: the next state if it was accepted, and the state as
 // it was handed if not.
-fn reading_numbers(reading: Reading, handed: State) -> Block
+fn reading_numbers(reading: Answered<Receiver, usize>, handed: State) -> Block
     ensures { result ≡ reading_numbers reading handed }
 {
-    let answer = reading.answer;
+    let answer = Answer::from(reading.answer);
     let accepted = answer.number == 0;
     Block {
         receiver: if accepted {
-            State::from(reading.receiver)
+            State::from(reading.state)
         } else {
             handed
         },

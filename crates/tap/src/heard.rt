@@ -5,7 +5,8 @@ ghost use Rattle.receiver.specs.Calls.{most_events, shortest, indexed_of};
 ghost use Rattle.tap.specs.AsCoded.{AreEvents, listed};
 
 use super::merge::Events;
-use receiver::{MOST_EVENTS, Reading, Receiver};
+use calls::Answer;
+use receiver::{MOST_EVENTS, Receiver};
 
 // The lists that it fills, as long as any block needs: three, since a receiver fills three.
 #[derive(Drop)]
@@ -27,16 +28,17 @@ impl Heard {
     }
 
     // The receiver reads the samples. The lists are lent to it where they stand, since a copy of them takes longer than a short block.
-    pub(crate) fn read(&mut self, receiver: Receiver, samples: &[i16]) -> Reading
-        ensures { outcome result.answer result.receiver ((self.new.numbers, self.new.differences), self.new.indices)
+    pub(crate) fn read(&mut self, receiver: Receiver, samples: &[i16]) -> (Receiver, Answer)
+        ensures { outcome result.1 result.0 ((self.new.numbers, self.new.differences), self.new.indices)
             ≡ indexed_of receiver samples.now ((self.old.numbers, self.old.differences), self.old.indices) }
     {
-        receiver.block_indexed(
+        let reading = receiver.block_indexed(
             samples,
             &mut self.numbers,
             &mut self.differences,
             &mut self.indices,
-        )
+        );
+        (reading.state, Answer::from(reading.answer))
     }
 
     // The first events, so many, each of which gets the band.

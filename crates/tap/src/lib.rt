@@ -55,19 +55,19 @@ impl Tap {
         let first = one.read(self.first, samples);
         let second = two.read(self.second, samples);
         let places = events.len().min(differences.len());
-        let number = self.refusal(first.answer.number, second.answer.number, samples, places);
+        let number = self.refusal(first.1.number, second.1.number, samples, places);
         if number != 0 {
             return refused(self.first, self.second, number);
         }
         let merged = Merged {
-            first: one.events(first.answer.count, self.first.band),
-            second: two.events(second.answer.count, self.second.band),
+            first: one.events(first.1.count, self.first.band),
+            second: two.events(second.1.count, self.second.band),
         };
         let count = merged.put(events, differences);
         TapReading {
             tap: Tap {
-                first: first.receiver,
-                second: second.receiver,
+                first: first.0,
+                second: second.0,
             },
             answer: Answer { number: 0, count },
         }

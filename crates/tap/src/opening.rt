@@ -27,7 +27,7 @@ pub(crate) fn fresh(first: u8, second: u8) -> Tap
     ensures { result ≡ fresh first second }
 {
     Tap {
-        first: Receiver::open(first).receiver,
-        second: Receiver::open(second).receiver,
+        first: Receiver::open(first).state,
+        second: Receiver::open(second).state,
     }
 }

@@ -9,15 +9,15 @@ use borrow.Author.Rules.{rules}
 use lib.IntN.{ℤ, pos}
 use lib.ListN.{length, replicate, take}
 use Rattle.integers.specs.All.{All}
-use Rattle.calls.specs.Outcome.{Outcome, accepted, over}
+use Rattle.calls.specs.declared.Answer.{Answer}
+use Rattle.calls.specs.Outcome.{Outcome, Opening, outcome, accepted, over}
 use Rattle.calls.proofs.Answers.{given-front, given_part, given_room}
 use Rattle.tones.specs.Bands.{is_band}
 use Rattle.tones.specs.Samples.{most_samples, are_samples}
 use Rattle.control.specs.Rules.{is_event}
 use Rattle.receiver.specs.declared.Receiver.{Receiver}
-use Rattle.receiver.specs.declared.Opened.{Opened}
 use Rattle.receiver.specs.Step.{state_after, events_after}
-use Rattle.receiver.specs.Calls.{fresh, most_events, open_of, block_of}
+use Rattle.receiver.specs.Calls.{EventLists, fresh, most_events, open_of, block_of}
 use Rattle.receiver.proofs.Ranges.{open_band, fresh_kept}
 use Rattle.receiver.proofs.Events.{events-known}
 use Rattle.receiver.proofs.Calls.{block_0, numbers_alone, read-numbers}
@@ -38,12 +38,12 @@ module _ (band : ℕ) (known : is_band band ≡ true) (xs : List ℤ) (few : len
   abbrev Given : Outcome Receiver (List ℕ) → Type 0
   Given read = read ≡ accepted (state_after s xs) (events_after s xs) places
 
-  given : (o : Opened) → o ≡ open_of band → (read : Outcome Receiver (List ℕ × List ℤ))
-      → read ≡ block_of o.receiver xs (places, difference-places) → Given (numbers_alone s xs read)
+  given : (o : Opening Receiver) → o ≡ open_of band → (read : Outcome Receiver (List ℕ × List ℤ))
+      → read ≡ block_of o.state xs (places, difference-places) → Given (numbers_alone s xs read)
   given o e read block =
       ap (numbers_alone s xs)
       (block
-      ∙ ap (λ (r : Receiver). block_of r xs (places, difference-places)) (ap (λ (p : Opened). p.receiver) e ∙ open_band band known)
+      ∙ ap (λ (r : Receiver). block_of r xs (places, difference-places)) (ap (λ (p : Opening Receiver). p.state) e ∙ open_band band known)
       ∙ block_0 s xs (places, difference-places) (fresh_kept band known) few sound (omega (arith, few)))
       ∙ read-numbers s xs (places, difference-places)
 
@@ -57,25 +57,29 @@ module _ (band : ℕ) (known : is_band band ≡ true) (xs : List ℤ) (few : len
     front : take read.count read.lent ≡ events_after s xs
     front = given-front (state_after s xs) (events_after s xs) places read g
 
+-- what it answers, as an outcome
+answered : {a b : Answer} {t : Receiver} {left : EventLists} {o : Outcome Receiver EventLists} → a ≡ b → outcome b t left ≡ o → outcome a t left ≡ o
+answered {t = t} {left} e f = ap (λ (x : Answer). outcome x t left) e ∙ f
+
 pub slice_bounds-events-end : goal.slice_bounds-events-end
 slice_bounds-events-end c =
     let q = c.requires in
     let a = c.args in
     room a.band q.band a.samples.now q.few q.sound _
-    (given a.band q.band a.samples.now q.few q.sound _ c.open-opened.ensures _ c.block-reading.ensures)
+    (given a.band q.band a.samples.now q.few q.sound _ c.open-opened.ensures _ (answered c.from-answer.ensures c.block-reading.ensures))
 
 pub slice_bounds-put_events-end : goal.slice_bounds-put_events-end
 slice_bounds-put_events-end c =
     let q = c.requires in
     let a = c.args in
     part a.band q.band a.samples.now q.few q.sound _
-    (given a.band q.band a.samples.now q.few q.sound _ c.open-opened.ensures _ c.block-reading.ensures)
+    (given a.band q.band a.samples.now q.few q.sound _ c.open-opened.ensures _ (answered c.from-answer.ensures c.block-reading.ensures))
 
 pub put_events-requires : goal.put_events-requires
 put_events-requires c =
     let q = c.requires in
     let a = c.args in
-    let g = given a.band q.band a.samples.now q.few q.sound _ c.open-opened.ensures _ c.block-reading.ensures in
+    let g = given a.band q.band a.samples.now q.few q.sound _ c.open-opened.ensures _ (answered c.from-answer.ensures c.block-reading.ensures) in
     let f = front a.band q.band a.samples.now q.few q.sound _ g in
     let r = room a.band q.band a.samples.now q.few q.sound _ g in
     let p = part a.band q.band a.samples.now q.few q.sound _ g in
@@ -89,7 +93,7 @@ pub returns : goal.returns
 returns c =
     let q = c.requires in
     let a = c.args in
-    let g = given a.band q.band a.samples.now q.few q.sound _ c.open-opened.ensures _ c.block-reading.ensures in
+    let g = given a.band q.band a.samples.now q.few q.sound _ c.open-opened.ensures _ (answered c.from-answer.ensures c.block-reading.ensures) in
     let e = ap events_text (front a.band q.band a.samples.now q.few q.sound _ g) in
     let p = c.put_events.ensures in
     record {

@@ -12,7 +12,7 @@ use lib.Seq.{sets}
 use Rattle.calls.specs.Outcome.{Outcome, outcome, accepted}
 use Rattle.calls.proofs.Answers.{given-front, given_part, given_room}
 use Rattle.tones.specs.Samples.{most_samples, are_samples}
-use Rattle.receiver.specs.declared.Reading.{Reading}
+use Rattle.calls.specs.declared.Answer.{Answer}
 use Rattle.receiver.specs.declared.Receiver.{Receiver}
 use Rattle.receiver.specs.Step.{state_after, measured_after}
 use Rattle.receiver.specs.Calls.{EventLists, most_events, in_range, block_of}
@@ -25,101 +25,106 @@ abbrev places : EventLists
 places = (replicate most_events 0, replicate most_events (pos 0))
 
 -- ---- the block is accepted
-module _ (s : Receiver) (xs : List ℤ) (r : Reading) (left : EventLists) where
+module _ (s : Receiver) (xs : List ℤ) (a : Answer) (u : Receiver) (left : EventLists) where
   record Called : Type 0 where
     range : in_range s ≡ true
     few : length xs ≤ most_samples
     samples : are_samples xs ≡ true
-    given : outcome r.answer r.receiver left ≡ block_of s xs places
+    given : outcome a u left ≡ block_of s xs places
 
   module _ (c : Called) where
     abbrev told : List (ℕ × ℤ)
     told = measured_after s xs
 
-    is-accepted : outcome r.answer r.receiver left ≡ read s xs places
+    is-accepted : outcome a u left ≡ read s xs places
     is-accepted =
         c.given
         ∙ block_0 s xs places c.range c.few c.samples
         (omega (arith, length-replicate {A = ℕ} most_events 0, length-replicate {A = ℤ} most_events (pos 0), c.few))
 
-    next-state : r.receiver ≡ state_after s xs
+    next-state : u ≡ state_after s xs
     next-state = ap (λ (o : Outcome Receiver EventLists). o.state) is-accepted
 
-    counted : r.answer.count ≡ length told
+    counted : a.count ≡ length told
     counted = ap (λ (o : Outcome Receiver EventLists). o.count) is-accepted
 
-    numbers-left : side_left r.answer.count left.0 ≡ accepted tt (numbers_of told) places.0
+    numbers-left : side_left a.count left.0 ≡ accepted tt (numbers_of told) places.0
     numbers-left =
-        side_given (λ (e : ℕ × ℤ). e.0) told places.0 left.0 r.answer.count counted (ap (λ (o : Outcome Receiver EventLists). o.lent.0) is-accepted)
+        side_given (λ (e : ℕ × ℤ). e.0) told places.0 left.0 a.count counted (ap (λ (o : Outcome Receiver EventLists). o.lent.0) is-accepted)
 
-    differences-left : side_left r.answer.count left.1 ≡ accepted tt (differences_of told) places.1
+    differences-left : side_left a.count left.1 ≡ accepted tt (differences_of told) places.1
     differences-left =
-        side_given (λ (e : ℕ × ℤ). e.1) told places.1 left.1 r.answer.count counted (ap (λ (o : Outcome Receiver EventLists). o.lent.1) is-accepted)
+        side_given (λ (e : ℕ × ℤ). e.1) told places.1 left.1 a.count counted (ap (λ (o : Outcome Receiver EventLists). o.lent.1) is-accepted)
 
-    events : take r.answer.count left.0 ≡ numbers_of told
+    events : take a.count left.0 ≡ numbers_of told
     events = given-front tt (numbers_of told) places.0 _ numbers-left
 
-    differences : take r.answer.count left.1 ≡ differences_of told
+    differences : take a.count left.1 ≡ differences_of told
     differences = given-front tt (differences_of told) places.1 _ differences-left
 
 -- ---- what is asked and left
+
+-- what it answers, as an outcome
+answered : {a b : Answer} {t : Receiver} {left : EventLists} {o : Outcome Receiver EventLists} → a ≡ b → outcome b t left ≡ o → outcome a t left ≡ o
+answered {t = t} {left} e f = ap (λ (x : Answer). outcome x t left) e ∙ f
+
 pub slice_bounds-part-end : goal.slice_bounds-part-end
 slice_bounds-part-end c =
     let b = c.block_by_value-reading in
-    let k : Called c.args.receiver c.args.block.now b.result (b.new.events, b.new.differences) =
-    record { range = c.requires.receiver_value; few = c.requires.block_len_bound.0; samples = c.requires.block_len_bound.1; given = b.ensures } in
-    given_room tt (numbers_of (told _ _ _ _ k)) places.0 _ (numbers-left _ _ _ _ k)
+    let k : Called c.args.receiver c.args.block.now c.from-answer.result b.result.state (b.new.events, b.new.differences) =
+    record { range = c.requires.receiver_value; few = c.requires.block_len_bound.0; samples = c.requires.block_len_bound.1; given = answered c.from-answer.ensures b.ensures } in
+    given_room tt (numbers_of (told _ _ _ _ _ k)) places.0 _ (numbers-left _ _ _ _ _ k)
 
 pub slice_bounds-put_events-end : goal.slice_bounds-put_events-end
 slice_bounds-put_events-end c =
     let b = c.block_by_value-reading in
-    let k : Called c.args.receiver c.args.block.now b.result (b.new.events, b.new.differences) =
-    record { range = c.requires.receiver_value; few = c.requires.block_len_bound.0; samples = c.requires.block_len_bound.1; given = b.ensures } in
-    given_part tt (numbers_of (told _ _ _ _ k)) places.0 _ (numbers-left _ _ _ _ k)
+    let k : Called c.args.receiver c.args.block.now c.from-answer.result b.result.state (b.new.events, b.new.differences) =
+    record { range = c.requires.receiver_value; few = c.requires.block_len_bound.0; samples = c.requires.block_len_bound.1; given = answered c.from-answer.ensures b.ensures } in
+    given_part tt (numbers_of (told _ _ _ _ _ k)) places.0 _ (numbers-left _ _ _ _ _ k)
 
 pub put_events-requires : goal.put_events-requires
 put_events-requires c =
     let b = c.block_by_value-reading in
-    let k : Called c.args.receiver c.args.block.now b.result (b.new.events, b.new.differences) =
-    record { range = c.requires.receiver_value; few = c.requires.block_len_bound.0; samples = c.requires.block_len_bound.1; given = b.ensures } in
-    omega (arith, ap length (events _ _ _ _ k), length-map (told _ _ _ _ k) (λ (e : ℕ × ℤ). e.0), c.requires.block_in_bounds)
+    let k : Called c.args.receiver c.args.block.now c.from-answer.result b.result.state (b.new.events, b.new.differences) =
+    record { range = c.requires.receiver_value; few = c.requires.block_len_bound.0; samples = c.requires.block_len_bound.1; given = answered c.from-answer.ensures b.ensures } in
+    omega (arith, ap length (events _ _ _ _ _ k), length-map (told _ _ _ _ _ k) (λ (e : ℕ × ℤ). e.0), c.requires.block_in_bounds)
 
 pub slice_bounds-part_differences-end : goal.slice_bounds-part_differences-end
 slice_bounds-part_differences-end c =
     let b = c.block_by_value-reading in
-    let k : Called c.args.receiver c.args.block.now b.result (b.new.events, b.new.differences) =
-    record { range = c.requires.receiver_value; few = c.requires.block_len_bound.0; samples = c.requires.block_len_bound.1; given = b.ensures } in
-    given_room tt (differences_of (told _ _ _ _ k)) places.1 _ (differences-left _ _ _ _ k)
+    let k : Called c.args.receiver c.args.block.now c.from-answer.result b.result.state (b.new.events, b.new.differences) =
+    record { range = c.requires.receiver_value; few = c.requires.block_len_bound.0; samples = c.requires.block_len_bound.1; given = answered c.from-answer.ensures b.ensures } in
+    given_room tt (differences_of (told _ _ _ _ _ k)) places.1 _ (differences-left _ _ _ _ _ k)
 
 pub slice_bounds-put_differences-end : goal.slice_bounds-put_differences-end
 slice_bounds-put_differences-end c =
     let b = c.block_by_value-reading in
-    let k : Called c.args.receiver c.args.block.now b.result (b.new.events, b.new.differences) =
-    record { range = c.requires.receiver_value; few = c.requires.block_len_bound.0; samples = c.requires.block_len_bound.1; given = b.ensures } in
-    given_part tt (differences_of (told _ _ _ _ k)) places.1 _ (differences-left _ _ _ _ k)
+    let k : Called c.args.receiver c.args.block.now c.from-answer.result b.result.state (b.new.events, b.new.differences) =
+    record { range = c.requires.receiver_value; few = c.requires.block_len_bound.0; samples = c.requires.block_len_bound.1; given = answered c.from-answer.ensures b.ensures } in
+    given_part tt (differences_of (told _ _ _ _ _ k)) places.1 _ (differences-left _ _ _ _ _ k)
 
 pub put_differences-requires : goal.put_differences-requires
 put_differences-requires c =
     let b = c.block_by_value-reading in
-    let k : Called c.args.receiver c.args.block.now b.result (b.new.events, b.new.differences) =
-    record { range = c.requires.receiver_value; few = c.requires.block_len_bound.0; samples = c.requires.block_len_bound.1; given = b.ensures } in
-    omega (arith, ap length (differences _ _ _ _ k), length-map (told _ _ _ _ k) (λ (e : ℕ × ℤ). e.1), c.requires.block_in_bounds_2)
+    let k : Called c.args.receiver c.args.block.now c.from-answer.result b.result.state (b.new.events, b.new.differences) =
+    record { range = c.requires.receiver_value; few = c.requires.block_len_bound.0; samples = c.requires.block_len_bound.1; given = answered c.from-answer.ensures b.ensures } in
+    omega (arith, ap length (differences _ _ _ _ _ k), length-map (told _ _ _ _ _ k) (λ (e : ℕ × ℤ). e.1), c.requires.block_in_bounds_2)
 
 pub overflow_add-result : goal.overflow_add-result
 overflow_add-result c =
     let b = c.block_by_value-reading in
-    let k : Called c.args.receiver c.args.block.now b.result (b.new.events, b.new.differences) =
-    record { range = c.requires.receiver_value; few = c.requires.block_len_bound.0; samples = c.requires.block_len_bound.1; given = b.ensures } in
-    omega (arith, counted _ _ _ _ k, c.requires.block_in_bounds)
+    let k : Called c.args.receiver c.args.block.now c.from-answer.result b.result.state (b.new.events, b.new.differences) =
+    record { range = c.requires.receiver_value; few = c.requires.block_len_bound.0; samples = c.requires.block_len_bound.1; given = answered c.from-answer.ensures b.ensures } in
+    omega (arith, counted _ _ _ _ _ k, c.requires.block_in_bounds)
 
 pub returns : goal.returns
 returns c =
     let b = c.block_by_value-reading in
     let a = c.args in
-    let k : Called a.receiver a.block.now b.result (b.new.events, b.new.differences) =
-    record { range = c.requires.receiver_value; few = c.requires.block_len_bound.0; samples = c.requires.block_len_bound.1; given = b.ensures } in
+    let k : Called a.receiver a.block.now c.from-answer.result b.result.state (b.new.events, b.new.differences) =
+    record { range = c.requires.receiver_value; few = c.requires.block_len_bound.0; samples = c.requires.block_len_bound.1; given = answered c.from-answer.ensures b.ensures } in
     record {
-      next = λ i. record { receiver = next-state _ _ _ _ k i; answer = record { number = 0; count = a.count + counted _ _ _ _ k i } };
-      told = c.put_events.ensures ∙ ap (sets a.events.now a.count) (events _ _ _ _ k);
-      beside = c.put_differences.ensures ∙ ap (sets a.differences.now a.count) (differences _ _ _ _ k);
+      next = λ i. (next-state _ _ _ _ _ k i, a.count + counted _ _ _ _ _ k i);
+      told = c.put_events.ensures ∙ ap (sets a.events.now a.count) (events _ _ _ _ _ k);
+      beside = c.put_differences.ensures ∙ ap (sets a.differences.now a.count) (differences _ _ _ _ _ k);
     }

@@ -7,7 +7,8 @@ use native.Mathlib.Omega.{arith}
 use lib.IntN.{ℤ}
 use lib.ListN.{length, take, drop, length-take}
 use Rattle.tones.specs.Samples.{most_samples}
-use Rattle.receiver.specs.declared.Opened.{Opened}
+use Rattle.calls.specs.Outcome.{Opening}
+use Rattle.receiver.specs.declared.Receiver.{Receiver}
 use Rattle.receiver.specs.Calls.{fresh}
 use Rattle.receiver.proofs.Ranges.{open_band, fresh_kept}
 use Rattle.loopback.proofs.Receiving.{reading_start, block-samples, block_room, reading_more, reading_count, reading_end}
@@ -27,7 +28,7 @@ module _ (xs : List ℤ) (at size end : ℕ) (e : end ≡ min (at + size) (lengt
 pub loop-at-init : goal.loop-at-init
 loop-at-init c =
     let a = c.args in
-    rw (ap (λ (o : Opened). o.receiver) c.open-opened.ensures ∙ open_band a.band c.requires.band_value)
+    rw (ap (λ (o : Opening Receiver). o.state) c.open-opened.ensures ∙ open_band a.band c.requires.band_value)
     (reading_start (fresh a.band) a.samples.now (a.events.now, a.differences.now) (fresh_kept a.band c.requires.band_value))
 
 pub block_end-end-requires : goal.block_end-end-requires

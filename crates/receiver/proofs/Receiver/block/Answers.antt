@@ -1,19 +1,12 @@
 -- `receiver::Receiver::block` meets its contract: the places of the shorter list count, and no index is told.
 -- Assumes nothing.
-use mathlib.Core.Path.{ap, ◌∙◌}
-use Prim.Native.Nat.{ℕ}
-use native.Mathlib.Omega.{arith}
-use Rattle.receiver.specs.Calls.{block_of}
-use Rattle.receiver.specs.AsCoded.{block_in}
+use Rattle.std.proofs.Common.{rules}
+use Rattle.calls.specs.Outcome.{as_answer}
+use Rattle.receiver.proofs.Calls.{block_left}
 use Rattle.receiver.proofs.Receiver.block.Goals as goal
 
-pub block_in-requires : goal.block_in-requires
-block_in-requires c =
-    let e = c.least-places.ensures in
-    (omega (arith, e), omega (arith, e))
-
 pub returns : goal.returns
-unfolding block_of
 returns c =
-    let a = c.args in
-    c.block_in.ensures.read ∙ ap (λ (n : ℕ). block_in a.self a.samples.now n (a.events.now, a.differences.now)) c.least-places.ensures
+    let l = c.block_in.new.lists in
+    block_left c.args.self c.args.samples.now (as_answer c.block_in.result.answer) c.block_in.result.state (c.args.events.now, c.args.differences.now)
+    (l.events.now, l.differences.now) _ _ _ (search rules) (search rules) c.min-places.ensures c.block_in.ensures.read

@@ -1,6 +1,6 @@
 -- `receiver::Receiver::open` meets its contract.
 -- Assumes nothing.
-use mathlib.Core.Path.{sym, ◌∙◌}
+use Rattle.std.proofs.Common.{sym, ◌∙◌}
 use Rattle.receiver.specs.Calls.{open_of}
 use Rattle.receiver.proofs.Receiver.open.Goals as goal
 

@@ -3,9 +3,10 @@
 use mathlib.Core.Path.{◌≡◌, sym, ap, ◌∙◌}
 use Prim.Native.Nat.{ℕ}
 use native.Mathlib.Omega.{arith}
+use Rattle.calls.specs.declared.Answer.{Answer}
 use Rattle.calls.specs.Refusals.{first_of}
 use Rattle.calls.specs.Outcome.{outcome}
-use Rattle.receiver.specs.declared.Reading.{Reading}
+use Rattle.receiver.specs.declared.Receiver.{Receiver}
 use Rattle.receiver.specs.Calls.{EventLists, shorter}
 use Rattle.tap.specs.declared.heard.Heard.{Heard}
 use Rattle.tap.specs.Calls.{block_tests}
@@ -14,8 +15,8 @@ use Rattle.tap.proofs.Tap.block.Goals as goal
 use Rattle.tap.proofs.Tap.block.Goals.{After-min-places, After-refusal-number}
 
 -- what the receivers gave
-abbrev given : Reading → Heard → Given
-given r lists = outcome r.answer r.receiver ((lists.numbers, lists.differences), lists.indices)
+abbrev given : Receiver × Answer → Heard → Given
+given r lists = outcome r.1 r.0 ((lists.numbers, lists.differences), lists.indices)
 
 module _ (c : After-min-places) where
   first : IsHeard c.args.self.first c.args.samples.now (given c.read-first.result c.read-first.new.self)
