@@ -26,7 +26,7 @@ unfolding after
 run-low run [] h = h
 run-low run (d ∷ ds) h = run-low (run_after run d.good) ds (run_kept run d.good)
 
-one_more : (run : ℕ) (good : Bool) → run_after run good ≤ run + 1
+pub one_more : (run : ℕ) (good : Bool) → run_after run good ≤ run + 1
 one_more run good = search rules
 
 -- it grows by at most 1 with each

@@ -1,6 +1,6 @@
 -- Laws of numbers as text: the bytes that are digits, the digits of a number one by one, and how many there are.
 -- Assumes nothing.
-use mathlib.Core.Path.{◌≡◌, refl, ap, ◌∙◌}
+use mathlib.Core.Path.{◌≡◌, refl, sym, ap, ◌∙◌}
 use mathlib.Core.Bool.{true}
 use mathlib.Core.List.{List, [], ◌∷◌, ◌++◌}
 use mathlib.Mathlib.Data.Bool.Basic.{and_elim_left, and_elim_right, and_intro}
@@ -10,6 +10,8 @@ use native.Mathlib.Omega.{arith}
 use borrow.Author.Tests.{leb-true, ltb-false, le-leb, lt-ltb, le-ltb}
 use lib.Dec.{leb, ltb}
 use lib.ListN.{length, length-append}
+use Rattle.std.specs.Fmt as printed
+use Rattle.std.proofs.lemmas.Fmt as printing
 use Rattle.integers.proofs.Tests.{cond_both, lt_or_le}
 use Rattle.digits.specs.Numbers.{is_digit, decimal_in, decimal, hexadecimal}
 
@@ -72,8 +74,18 @@ length-decimal (suc k) n h =
 pub five_digits : (n : ℕ) → n < 65536 → length (decimal n) ≤ 5
 five_digits n h = length-decimal 4 n (omega arith)
 
--- for the search of the check: the digits of a tenth and one more
-pub ruleset by_tenth = (decimal-small, decimal-more, length-small, length_more)
+-- the library prints the same digits; k bounds the number
+as_library : (k n : ℕ) → n < k → n < 2 ^ 64 → printed.decimal n ≡ decimal n
+as_library zero n h small = absurd (not-suc-le-zero h)
+as_library (suc k) n h small =
+    lt_or_le n 10 (λ l. printing.decimal_digit n l ∙ sym (decimal-small n l))
+    (λ l. printing.decimal_step n l small ∙ longer (48 + n % 10) (as_library k (n / 10) (omega arith) (omega arith)) ∙ sym (decimal-more n l))
+
+pub library_decimal : (n : ℕ) → n < 65536 → printed.decimal n ≡ decimal n
+library_decimal n h = as_library (suc n) n (lt-suc_self n) (omega arith)
+
+-- for the search of the check: the digits are the library's, and at most five
+pub ruleset by_library = (library_decimal, five_digits)
 
 -- ---- hexadecimal
 

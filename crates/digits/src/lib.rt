@@ -1,8 +1,7 @@
 // Numbers as digits, in decimal and in hexadecimal.
 #![tactic(auto)]
 
-ghost use Rattle.std.specs.Prelude.{◌≡◌, nat_abs, ◌+◌, ◌++◌, ◌<◌, ◌≤◌, length};
-ghost use Rattle.arrayvec.specs.ArrayVec.{array_vec_len};
+ghost use Rattle.std.specs.Prelude.{◌≡◌, nat_abs, ◌<◌};
 ghost use Rattle.digits.specs.Numbers.{is_digit, decimal, hex_digit, hexadecimal};
 
 use arrayvec::ArrayVec;
@@ -21,28 +20,12 @@ pub fn magnitude(z: i16) -> u16
 }
 
 // The decimal digits of a number.
-#[tactic(auto, using(crate::proofs::Numbers::five_digits))]
+#[tactic(auto, using(crate::proofs::Numbers::by_library))]
 pub fn decimal(n: u16) -> ArrayVec<u8, 5>
     ensures { result.items ≡ decimal n }
 {
-    let mut digits = ArrayVec::new();
-    push_decimal(&mut digits, n);
-    digits
-}
-
-// Puts the digits of a number behind others: those of its tenth, and one more. Each call is lent the list, since a list that each one gives
-// back takes twice the time for a sheet.
-#[tactic(auto, using(crate::proofs::Numbers::by_tenth))]
-fn push_decimal(digits: &mut ArrayVec<u8, 5>, n: u16)
-    requires { array_vec_len digits.old + length (decimal n) ≤ 5 }
-    ensures { digits.new.items ≡ digits.old.items ++ decimal n }
-{
-    if n < 10 {
-        digits.push(b'0' + n as u8);
-        return;
-    }
-    push_decimal(digits, n / 10);
-    digits.push(b'0' + (n % 10) as u8);
+    let mut buffer = itoa::Buffer::new();
+    ArrayVec::try_from(buffer.format(n).as_bytes()).unwrap()
 }
 
 // The two hexadecimal digits of a byte, in lower case.

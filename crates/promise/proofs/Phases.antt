@@ -2,7 +2,7 @@
 -- laws of `control`.
 -- Assumes nothing.
 use mathlib.Core.Path.{◌≡◌, refl, ◌∙◌}
-use mathlib.Core.Bool.{Bool, true, false, cond}
+use mathlib.Core.Bool.{true, false, cond}
 use mathlib.Core.List.{List, []}
 use Prim.Native.Nat.{ℕ, zero, suc, ◌+◌, ◌≤◌, ◌<◌, min}
 use native.Mathlib.Omega.{arith}
@@ -14,6 +14,7 @@ use Rattle.control.specs.declared.Stage.TheVariants.{Searching, Waiting}
 use Rattle.control.specs.declared.Control.{Control}
 use Rattle.control.specs.Rules.{quiet, run_after}
 use Rattle.control.specs.AsCoded.{is_found}
+use Rattle.control.proofs.Stretches.{one_more}
 use Rattle.control.proofs.Rules.{search_short, search_mark, wait_taken, start_weak, asks}
 use Rattle.promise.proofs.Steps.{at, Reads, Keeps, moves, quietly, waits}
 
@@ -28,14 +29,10 @@ silent-step X k d g s Z silent = moves (at 0 Searching) d 0 (quiet Searching) X 
 pub data FirstBit (X : List ℕ) (k : ℕ) : Control → List ℕ → Type 0 where
   short_run : (run : ℕ) → run ≤ k → FirstBit X k (at run Searching) X
 
-run-most : (run : ℕ) (good : Bool) → run_after run good ≤ run + 1
-run-most run true = omega arith
-run-most run false = omega arith
-
 pub first_bit_step : (X : List ℕ) (k : ℕ) → k < 31 → (d : Decision) → Keeps (FirstBit X k) d (FirstBit X (suc k))
 first_bit_step X k h d s Z (short_run run l) =
     let after : ℕ = run_after run d.good in
-    let most : after ≤ run + 1 = run-most run d.good in
+    let most : after ≤ run + 1 = one_more run d.good in
     quietly d Searching Searching (search_short after d (λ e. omega arith)) (short_run after (omega arith))
 
 -- ---- its second bit: the run fills

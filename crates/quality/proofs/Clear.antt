@@ -2,7 +2,7 @@
 -- machine as it is did the same.
 -- Assumes nothing.
 use mathlib.Core.Path.{◌≡◌, refl, ap, ap₂, ◌∙◌, subst}
-use mathlib.Core.Bool.{Bool, true, false, cond, not, ◌&&◌, false≢true, true≢false}
+use mathlib.Core.Bool.{Bool, true, false, cond, not, true≢false}
 use mathlib.Core.List.{List, [], ◌∷◌, ◌++◌, map}
 use Prim.Native.Nat.{ℕ, ◌-◌}
 use lib.Dec.{eqb}
@@ -12,12 +12,12 @@ use Rattle.std.specs.Prelude.{Option, Some, None}
 use Rattle.integers.specs.All.{All, none, more}
 use Rattle.integers.proofs.All.{all_append, all_front, all_behind}
 use Rattle.integers.proofs.Tests.{cond_case, cond-split}
+use Rattle.std.proofs.Common.{rules}
 use Rattle.calls.specs.Runs.{gives}
 use Rattle.control.specs.declared.Bit.{Bit}
 use Rattle.control.specs.declared.Bit.TheVariants.{Doubtful}
 use Rattle.control.specs.declared.Decision.{Decision}
 use Rattle.control.specs.declared.event.Event.TheVariants.{CarrierLost}
-use Rattle.control.specs.declared.Next.{Next}
 use Rattle.control.specs.declared.Stage.{Stage}
 use Rattle.control.specs.declared.Stage.TheVariants.{Searching, Waiting, Held}
 use Rattle.control.specs.declared.Control.{Control}
@@ -74,24 +74,19 @@ module _ (clear : ℕ) (d : Decision) where
 
   step : (stage : Stage) (run : ℕ) → AreRead (numbers (next_of stage run (strict clear d)).event) → Step stage run
   unfolding next_of taken
-  step Searching run h = record { same = refl; enough = λ t. absurd (false≢true t); untold = λ t. refl }
-  step Held run h = record { same = refl; enough = λ t. absurd (false≢true t); untold = λ t. refl }
-  step (Waiting wait slot byte) run h = go (eqb (wait - 1) 0) (eqb slot 0) refl refl
+  step Searching run h = record { same = refl; enough = λ t. search rules; untold = λ t. refl }
+  step Held run h = record { same = refl; enough = λ t. search rules; untold = λ t. refl }
+  step (Waiting wait slot byte) run h = go (takes_bit (Waiting wait slot byte)) refl
     where
-      go : (over start : Bool) → eqb (wait - 1) 0 ≡ over → eqb slot 0 ≡ start → Step (Waiting wait slot byte) run
-      go false start e f = record { same = rw e; enough = λ t. absurd (false≢true (rw e at t)); untold = λ t. rw e }
-      go true true e f =
-          record {
-            same = rw (e, f);
-            enough = λ t. absurd (false≢true (rw (e, f) at t));
-            untold = λ t. rw (e, f) (cond_case (λ (n : Next). n.event ≡ None) (d.good && d.space) _ _ refl refl);
-          }
-      go true false e f =
-          let large = slot_read slot byte f (rw e at h) in
+      go : (takes : Bool) → takes_bit (Waiting wait slot byte) ≡ takes → Step (Waiting wait slot byte) run
+      go false e = record { same = search rules; enough = λ t. search rules; untold = λ t. search rules }
+      go true e =
+          let over : eqb (wait - 1) 0 ≡ true = search rules in
+          let large = slot_read slot byte (search rules) (rw over at h) in
           record {
             same = ap (next_of (Waiting wait slot byte) run) (strict_same large);
             enough = λ t. large;
-            untold = λ t. absurd (true≢false (rw (e, f) at t));
+            untold = λ t. search rules;
           }
 
 -- ---- beside the smallest difference

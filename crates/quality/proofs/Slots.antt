@@ -2,13 +2,12 @@
 -- each decision: which decision takes slot 1, and that the smallest so far is that of the slots since.
 -- Assumes nothing.
 use mathlib.Core.Path.{◌≡◌, refl, sym, ap, ap₂, ◌∙◌}
-use mathlib.Core.Bool.{Bool, true, false, cond, not, ◌&&◌, true≢false}
+use mathlib.Core.Bool.{Bool, true, false, cond, not, ◌&&◌}
 use mathlib.Core.List.{List, [], ◌∷◌, map, head-eq_of_cons-eq, tail-eq_of_cons-eq}
-use mathlib.Mathlib.Data.Bool.Basic.{and_intro}
 use Prim.Native.Nat.{ℕ, zero, suc, ◌+◌, ◌-◌, ◌*◌, ◌<◌, ◌≤◌}
 use native.Mathlib.Numerals.{add-one}
 use native.Mathlib.Omega.{arith}
-use borrow.Author.Tests.{le-leb, eq-eqb, ne_eqb, eqb-true, eqb-false}
+use borrow.Author.Tests.{eq-eqb, ne_eqb, eqb-true, eqb-false}
 use lib.Dec.{eqb}
 use lib.IntN.{ℤ}
 use lib.ListN.{length, get_or, take, drop, length-drop}
@@ -17,6 +16,7 @@ use Rattle.std.specs.Prelude.{Option, Some, None}
 use Rattle.integers.specs.All.{All, none, more}
 use Rattle.integers.proofs.All.{all_append}
 use Rattle.integers.proofs.Tests.{cond_case, cond-split, lt_or_le}
+use Rattle.std.proofs.Common.{rules}
 use Rattle.calls.specs.Runs.{after, indexed, with_index}
 use Rattle.calls.proofs.Runs.{run_laws}
 use Rattle.control.specs.declared.Decision.{Decision}
@@ -109,7 +109,7 @@ module _ (s : Tracked) (difference : ℕ → ℤ) (ds : List Decision) (same : D
             (λ l.
             let e : slot ≡ j + 1 = omega arith in
             let p : n ≡ u.first + 32 * j = omega (arith, u.place) in
-            record { byte = byte; waits = ap (λ (i : ℕ). (here i).control.stage) (sym p) ∙ stands ∙ ap (λ (k : ℕ). Waiting 1 k byte) e })
+            record { byte = byte; waits = rw (← p, ← e) stands })
 
         least_this : now ≡ least_of (slot_from u.first) (slot - 1)
         least_this =
@@ -240,7 +240,5 @@ events-own s difference ds f same =
     start Searching h g = f.none
     start (Waiting wait slot byte) h g =
         first-ahead s difference ds same 0 wait slot (wait_low wait slot (stage_wait wait slot byte h))
-        (lt_or_le slot 2 (λ l. omega arith)
-        (λ l. absurd (true≢false (sym (and_intro (le-leb 2 slot l) (le-leb slot 9 (slot-most slot byte (stage-slot wait slot byte h)))) ∙ g))))
-        f.none
+        (let most : slot ≤ 9 = slot-most slot byte (stage-slot wait slot byte h) in search rules) f.none
     start Held h g = f.none
