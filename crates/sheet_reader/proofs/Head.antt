@@ -3,6 +3,7 @@
 use Rattle.std.proofs.Common.{◌≡◌, ◌≢◌, refl, Bool, true, false, List, ◌++◌, ℕ, ◌-◌, ◌≤◌, length, get_or, drop, arith}
 use mathlib.Core.Bool.{and-false}
 use mathlib.Mathlib.Data.Bool.Basic.{and_elim_left, and_intro}
+use Rattle.std.proofs.lemmas.Bool.{false_from_ne_true}
 use Rattle.digits.specs.Numbers.{is_digit}
 use Rattle.text.specs.Bytes.{starts_with}
 use Rattle.text.proofs.Bytes.{starts_cut, starts_append}
@@ -17,24 +18,16 @@ unfolding head_of
 behind x t s = starts_cut (head_of x) t s
 
 module _ (t : List ℕ) where
-  -- what no text with a head has
-  unheaded : (is_headed t ≡ true → ⊥) → is_headed t ≡ false
-  unheaded h = go (is_headed t) refl
-    where
-      go : (b : Bool) → is_headed t ≡ b → is_headed t ≡ false
-      go true e = absurd (h e)
-      go false e = e
-
   -- a text without room for a digit has no head
   pub headless : length t ≤ 5 → is_headed t ≡ false
-  headless l = unheaded (λ h. omega (arith, (headed t h).long))
+  headless l = false_from_ne_true (is_headed t) (λ h. omega (arith, (headed t h).long))
 
   module _ (x : ℕ) (e : x ≡ get_or t 5 0) where
     -- nor has one that begins otherwise, or with no digit
     pub other_head : ((rest : List ℕ) → t ≢ head_of x ++ rest) → is_headed t ≡ false
     unfolding is_headed
     other_head n =
-        unheaded (λ h.
+        false_from_ne_true (is_headed t) (λ h.
         let starts : starts_with (head_of x) t ≡ true = rw e (and_elim_left (starts_with (head_of (get_or t 5 0)) t) (is_digit (get_or t 5 0)) h) in
         n (drop 14 t) (behind x t starts))
 

@@ -17,30 +17,21 @@ use Rattle.sheet_reader.specs.Reading.{reading}
 use Rattle.sheet_reader.specs.AsCoded.{IsHead, seen_of}
 use Rattle.sheet_reader.specs.declared.reader.Seen.{Seen}
 
--- what is found in lines is in their samples, and every line is ended
-seen_found : (lines : List ℕ) (seen : Seen) → Some seen ≡ seen_of lines
-    → (is_start (line_after (Some Start) lines) ≡ true)
-    × (seen ≡ record { count = length (samples_in (Some Start) lines); sound = are_samples (samples_in (Some Start) lines) })
-seen_found lines seen e = go (is_start (line_after (Some Start) lines)) refl e
-  where
-    found : Seen
-    found = record { count = length (samples_in (Some Start) lines); sound = are_samples (samples_in (Some Start) lines) }
+some_if : {A : Type 0} (b : Bool) (x y : A) → Some y ≡ (if b then Some x else None) → (b ≡ true) × (y ≡ x)
+some_if true x y e = (refl, cc)
+some_if false x y e = cc
 
-    go : (b : Bool) → is_start (line_after (Some Start) lines) ≡ b → Some seen ≡ (if b then Some found else None)
-        → (is_start (line_after (Some Start) lines) ≡ true) × (seen ≡ found)
-    go true e s = (e, cc)
-    go false e s = cc
+none_if : {A : Type 0} (b : Bool) (x : A) → None ≡ (if b then Some x else None) → b ≡ false
+none_if true x e = cc
+none_if false x e = refl
 
-none_found : (lines : List ℕ) → None ≡ seen_of lines → is_start (line_after (Some Start) lines) ≡ false
-none_found lines e = go (is_start (line_after (Some Start) lines)) refl e
-  where
-    found : Seen
-    found = record { count = length (samples_in (Some Start) lines); sound = are_samples (samples_in (Some Start) lines) }
+-- what a first look finds in lines
+module _ (lines : List ℕ) where
+  abbrev found : Seen
+  found = record { count = length (samples_in (Some Start) lines); sound = are_samples (samples_in (Some Start) lines) }
 
-    go : (b : Bool) → is_start (line_after (Some Start) lines) ≡ b → None ≡ (if b then Some found else None)
-        → is_start (line_after (Some Start) lines) ≡ false
-    go true e s = cc
-    go false e s = e
+  abbrev is_ended : Bool
+  is_ended = is_start (line_after (Some Start) lines)
 
 module _ (text : List ℕ) (lent : List ℤ) where
   refused_as : (r : Refusal) → number_of r ≡ first_of (read_tests text (length lent)) → reading (Err r) lent ≡ read_of text lent
@@ -58,18 +49,21 @@ module _ (text : List ℕ) (lent : List ℤ) where
     module _ {band : ℕ} {lines : List ℕ} (h : IsHead text band lines) where
       pub lineless : None ≡ seen_of lines → reading (Err NotASheet) lent ≡ read_of text lent
       unfolding is_sheet
-      lineless e = refused_as NotASheet (read_7 text (length lent) short (rw (h.headed, ← h.behind, none_found lines e)))
+      lineless e = refused_as NotASheet (read_7 text (length lent) short (rw (h.headed, ← h.behind, none_if (is_ended lines) (found lines) e)))
 
       module _ (seen : Seen) (s : Some seen ≡ seen_of lines) where
+        look : (is_ended lines ≡ true) × (seen ≡ found lines)
+        look = some_if (is_ended lines) (found lines) seen s
+
         pub ended : line_after (Some Start) lines ≡ Some Start
-        ended = is_start_lem (line_after (Some Start) lines) (seen_found lines seen s).0
+        ended = is_start_lem (line_after (Some Start) lines) look.0
 
         form : is_sheet text ≡ true
         unfolding is_sheet
-        form = and_intro h.headed (rw h.behind at (seen_found lines seen s).0)
+        form = and_intro h.headed (rw h.behind at look.0)
 
         judged : first_of (samples_tests band seen.count seen.sound (length lent)) ≡ first_of (read_tests text (length lent))
-        judged = rw ((seen_found lines seen s).1, h.band_read, h.behind) (read_others text (length lent) short form)
+        judged = rw (look.1, h.band_read, h.behind) (read_others text (length lent) short form)
 
         pub refused_in : (r : Refusal) → number_of r ≡ first_of (samples_tests band seen.count seen.sound (length lent))
             → reading (Err r) lent ≡ read_of text lent
@@ -80,7 +74,7 @@ module _ (text : List ℕ) (lent : List ℤ) where
         unfolding read_of
         accepted_as e now o =
             let count : seen.count ≡ length (samples_of text) =
-            ap (λ (f : Seen). f.count) (seen_found lines seen s).1 ∙ ap (λ (l : List ℕ). length (samples_in (Some Start) l)) h.behind in
+            ap (λ (f : Seen). f.count) look.1 ∙ ap (λ (l : List ℕ). length (samples_in (Some Start) l)) h.behind in
             rw h.band_read
             (answer_accepted (read_tests text (length lent)) 0 lent (e ∙ judged) (band_in text) (samples_of text) seen.count now count (rw h.behind at o))
 

@@ -71,18 +71,40 @@ module _ (t : List ℕ) (i : ℕ) (line : Line) where
     unfolding runs.gives
     samples_end = rw (drop_of_length-le t {i = i} h)
 
+-- ---- both passes
+
+-- the bytes of the text t before place i lead to this place in a line
+pub record Stands (t : List ℕ) (line : Line) (i : ℕ) : Type 0 where
+  pub small : Small line
+  pub place : line_after (Some line) (drop i t) ≡ line_after (Some Start) t
+
+stands_start : (t : List ℕ) → Stands t Start 0
+stands_start t = record { small = tt; place = refl }
+
+module _ {t : List ℕ} {line : Line} {i : ℕ} (s : Stands t line i) (h : i < length t) where
+  abbrev next_place : Option Line
+  next_place = next line (get_or t i 0)
+
+  stands_more : {to : Line} → next_place ≡ Some to → Stands t to (i + 1)
+  stands_more e =
+      record { small = rw e at (small-next line (get_or t i 0)); place = sym (rw e at (line_next t i line h)) ∙ s.place }
+
+  -- no line has the byte
+  stands_none : next_place ≡ None → line_after (Some Start) t ≡ None
+  stands_none e = sym s.place ∙ rw e at (line_next t i line h) ∙ none_after (drop (i + 1) t)
+
 -- ---- the first pass
 
 -- the bytes of the text t before place i are looked at
 pub record Looked (t : List ℕ) (line : Line) (count : ℕ) (sound : Bool) (i : ℕ) : Type 0 where
-  pub small : Small line
+  pub stands : Stands t line i
   pub few : count ≤ i
-  pub place : line_after (Some line) (drop i t) ≡ line_after (Some Start) t
   pub counted : count + length (samples_in (Some line) (drop i t)) ≡ length (samples_in (Some Start) t)
   pub tested : (sound && are_samples (samples_in (Some line) (drop i t))) ≡ are_samples (samples_in (Some Start) t)
 
 pub looked_start : (t : List ℕ) → Looked t Start 0 true 0
-looked_start t = record { small = tt; few = omega arith; place = refl; counted = zero-add (length (samples_in (Some Start) t)); tested = refl }
+looked_start t =
+    record { stands = stands_start t; few = omega arith; counted = zero-add (length (samples_in (Some Start) t)); tested = refl }
 
 not_start : (line : Line) → (line ≡ Start → ⊥) → is_start (Some line) ≡ false
 unfolding is_start
@@ -93,25 +115,19 @@ not_start (Number m n) h = refl
 
 module _ {t : List ℕ} {line : Line} {count : ℕ} {sound : Bool} {i : ℕ} (p : Looked t line count sound i) where
   module _ (h : i < length t) where
-    -- no line has the byte
     pub looked_none : next line (get_or t i 0) ≡ None → None ≡ seen_of t
     unfolding is_start
-    looked_none e = rw (sym p.place, line_next t i line h, e, none_after (drop (i + 1) t))
+    looked_none e = rw (stands_none p.stands h e)
 
-    -- one has it
     module _ {to : Line} (e : next line (get_or t i 0) ≡ Some to) where
-      moved : Small to × (line_after (Some to) (drop (i + 1) t) ≡ line_after (Some Start) t)
-      moved = (rw e at (small-next line (get_or t i 0)), sym (rw e at (line_next t i line h)) ∙ p.place)
-
       -- the line is ended, or it is not
       pub looked_feed : get_or t i 0 ≡ 10 → (z : Bool) → z ≡ are_samples (sample_of line ∷ []) → Looked t to (count + 1) (sound && z) (i + 1)
       unfolding are_between
       looked_feed f z k =
           let fed = rw e at (samples-fed t i line h f) in
           record {
-            small = moved.0;
+            stands = stands_more p.stands h e;
             few = omega (arith, p.few);
-            place = moved.1;
             counted = omega (arith, ap length fed, p.counted);
             tested =
                 and_assoc sound z (are_samples (samples_in (Some to) (drop (i + 1) t)))
@@ -123,9 +139,8 @@ module _ {t : List ℕ} {line : Line} {count : ℕ} {sound : Bool} {i : ℕ} (p 
       looked_other f =
           let kept = rw e at (samples-kept t i line h f) in
           record {
-            small = moved.0;
+            stands = stands_more p.stands h e;
             few = omega (arith, p.few);
-            place = moved.1;
             counted = rw kept at p.counted;
             tested = rw kept at p.tested;
           }
@@ -137,25 +152,23 @@ module _ {t : List ℕ} {line : Line} {count : ℕ} {sound : Bool} {i : ℕ} (p 
     looked_ended e =
         let many : length (samples_in (Some Start) t) ≡ count = omega (arith, ap length (samples_end t i line h), p.counted) in
         let good : are_samples (samples_in (Some Start) t) ≡ sound = sym (rw (samples_end t i line h, and-true sound) at p.tested) in
-        rw (sym p.place, line_end t i line h, e, many, good)
+        rw (sym p.stands.place, line_end t i line h, e, many, good)
 
     pub looked_all : (line ≡ Start → ⊥) → None ≡ seen_of t
-    looked_all e = rw (sym p.place, line_end t i line h, not_start line e)
+    looked_all e = rw (sym p.stands.place, line_end t i line h, not_start line e)
 
 -- ---- the second pass
 
 -- the samples of the bytes before place i are in the buffer, which was `lent` and is `now`
 pub record Filled (t : List ℕ) (lent now : List ℤ) (line : Line) (count i : ℕ) : Type 0 where
-  pub small : Small line
-  pub place : line_after (Some line) (drop i t) ≡ line_after (Some Start) t
+  pub stands : Stands t line i
   pub counted : count + length (samples_in (Some line) (drop i t)) ≡ length (samples_in (Some Start) t)
   pub filling : Filling lent 0 (samples_in (Some Start) t) now count (samples_in (Some line) (drop i t))
 
 pub filled_start : (t : List ℕ) (lent : List ℤ) → Filled t lent lent Start 0 0
 filled_start t lent =
     record {
-      small = tt;
-      place = refl;
+      stands = stands_start t;
       counted = zero-add (length (samples_in (Some Start) t));
       filling = filling_start lent 0 (samples_in (Some Start) t);
     }
@@ -165,24 +178,20 @@ module _ {t : List ℕ} {lent now : List ℤ} {line : Line} {count i : ℕ} (p :
     pub filled_room : get_or t i 0 ≡ 10 → length (samples_in (Some Start) t) ≤ length lent → count < length now
     filled_room f room = omega (arith, ap length (samples-fed t i line h f), p.counted, p.filling.long)
 
-    -- behind the text every line is ended, so some line has the byte
+    -- every line is ended, so some line has the byte
     pub filled_some : line_after (Some Start) t ≡ Some Start → IsSome (next line (get_or t i 0))
     filled_some e = go (next line (get_or t i 0)) refl
       where
         go : (o : Option Line) → next line (get_or t i 0) ≡ o → IsSome o
-        go None n = let l = rw n at (line_next t i line h) in let s = none_after (drop (i + 1) t) in let q = p.place in cc
+        go None n = let s = stands_none p.stands h n in cc
         go (Some to) n = refl
 
     module _ {to : Line} (e : next line (get_or t i 0) ≡ Some to) where
-      stays : Small to × (line_after (Some to) (drop (i + 1) t) ≡ line_after (Some Start) t)
-      stays = (rw e at (small-next line (get_or t i 0)), sym (rw e at (line_next t i line h)) ∙ p.place)
-
       pub filled_feed : get_or t i 0 ≡ 10 → (z : ℤ) → z ≡ sample_of line → Filled t lent (set now count z) to (count + 1) (i + 1)
       filled_feed f z k =
           let fed = rw e at (samples-fed t i line h f) in
           record {
-            small = stays.0;
-            place = stays.1;
+            stands = stands_more p.stands h e;
             counted = omega (arith, ap length fed, p.counted);
             filling = rw k (filling_more (sample_of line ∷ []) (samples_in (Some to) (drop (i + 1) t)) (rw fed at p.filling));
           }
@@ -190,12 +199,7 @@ module _ {t : List ℕ} {lent now : List ℤ} {line : Line} {count i : ℕ} (p :
       pub filled_other : (get_or t i 0 ≡ 10 → ⊥) → Filled t lent now to count (i + 1)
       filled_other f =
           let kept = rw e at (samples-kept t i line h f) in
-          record {
-            small = stays.0;
-            place = stays.1;
-            counted = rw kept at p.counted;
-            filling = rw kept at p.filling;
-          }
+          record { stands = stands_more p.stands h e; counted = rw kept at p.counted; filling = rw kept at p.filling }
 
   pub filled_all : length t ≤ i → length (samples_in (Some Start) t) ≤ length lent → now ≡ over (samples_in (Some Start) t) lent
   filled_all h room = filling_front (rw (samples_end t i line h) at p.filling) room
