@@ -1,6 +1,6 @@
 -- What is known when nothing is refused, and the two outcomes.
 -- Assumes nothing.
-use mathlib.Core.Path.{◌≡◌, sym}
+use mathlib.Core.Path.{◌≡◌}
 use mathlib.Core.Bool.{true, ◌&&◌}
 use mathlib.Core.List.{List}
 use mathlib.Mathlib.Data.Bool.Basic.{and_elim_left, and_elim_right}
@@ -10,9 +10,11 @@ use lib.Dec.{leb}
 use lib.IntN.{ℤ}
 use lib.ListN.{length}
 use Rattle.integers.specs.All.{none, more}
-use Rattle.calls.specs.Refusals.{Test, first_of}
-use Rattle.calls.specs.Outcome.{refused}
-use Rattle.calls.proofs.Refusals.{NoneHolds, none-holds, not-refused, is-refused}
+use Rattle.std.specs.Prelude.{Ok, Err}
+use Rattle.calls.specs.declared.Refusal.{Refusal}
+use Rattle.calls.specs.Refusals.{number_of, Test, first_of}
+use Rattle.calls.specs.Outcome.{outcome, as_answer}
+use Rattle.calls.proofs.Refusals.{NoneHolds, none-holds, answer_refused, answer_given}
 use Rattle.tones.specs.Bands.{is_band}
 use Rattle.tones.specs.Samples.{most_samples}
 use Rattle.transmitter.specs.Calls.{most_characters}
@@ -83,10 +85,11 @@ module _ (band : ℕ) (characters : List ℕ) (added : List ℤ) (size : ℕ) (l
   abbrev asked : List Test
   asked = loopback_tests band (length characters) added size (length lent.samples) (length lent.events) (length lent.differences)
 
-  pub loopback_refused : (n : ℕ) → n ≡ first_of asked → (n ≡ 0 → ⊥) → refused n tt lent ≡ loopback_of band characters added size lent
+  pub loopback_refused : (r : Refusal) → number_of r ≡ first_of asked → outcome (as_answer (Err r)) tt lent ≡ loopback_of band characters added size lent
   unfolding loopback_of
-  loopback_refused = is-refused asked tt lent (accepted_loopback band characters added lent)
+  loopback_refused = answer_refused asked tt lent (accepted_loopback band characters added lent)
 
-  pub loopback_accepted : first_of asked ≡ 0 → accepted_loopback band characters added lent ≡ loopback_of band characters added size lent
+  pub loopback_accepted : 0 ≡ first_of asked → (count : ℕ) (now : Lists) → outcome (as_answer (Ok count)) tt now ≡ accepted_loopback band characters added lent
+      → outcome (as_answer (Ok count)) tt now ≡ loopback_of band characters added size lent
   unfolding loopback_of
-  loopback_accepted e = sym (not-refused asked tt lent (accepted_loopback band characters added lent) e)
+  loopback_accepted e count = answer_given asked tt lent (accepted_loopback band characters added lent) e count tt

@@ -3,15 +3,15 @@
 #![tactic(auto)]
 
 ghost use Rattle.std.specs.Prelude.{◌≡◌, ◌≤◌};
-ghost use Rattle.calls.specs.Refusals.{first_of};
-ghost use Rattle.calls.specs.Outcome.{outcome};
+ghost use Rattle.calls.specs.Refusals.{refusal_number, first_of};
+ghost use Rattle.calls.specs.Outcome.{as_answer, outcome};
 ghost use Rattle.transmitter.specs.Calls.{most_characters};
 ghost use Rattle.loopback.specs.Loopback.{lists, is_size, is_room, loopback_tests, loopback_of};
 
 mod disturb;
 mod receive;
 
-use calls::Answer;
+use calls::Refusal;
 use tones::MOST_SAMPLES;
 use transmitter::MOST_CHARACTERS;
 
@@ -20,7 +20,8 @@ pub const DISTURBANCE: i16 = 100;
 
 // Sends leader, characters and trailer in a band, adds the numbers of `disturbance` sample by sample, and reads the result in
 // blocks of `size` through the receiver's second entry. The samples as they were read, the events and their differences go to the caller's
-// buffers.
+// buffers. It gives the count of events.
+#[tactic(auto, using(crate::proofs::Refusals::loopback_refused))]
 pub fn loopback(
     band: u8,
     characters: &[u8],
@@ -29,12 +30,12 @@ pub fn loopback(
     samples: &mut [i16],
     events: &mut [u16],
     differences: &mut [i64],
-) -> Answer
-    ensures { outcome result tt (lists samples.new events.new differences.new)
+) -> Result<usize, Refusal>
+    ensures { outcome (as_answer result) tt (lists samples.new events.new differences.new)
         ≡ loopback_of band characters.now disturbance.now size
         (lists samples.old events.old differences.old) }
 {
-    let number = refusal(
+    check(
         band,
         characters.len(),
         disturbance,
@@ -42,19 +43,14 @@ pub fn loopback(
         samples.len(),
         events.len(),
         differences.len(),
-    );
-    if number != 0 {
-        return Answer { number, count: 0 };
-    }
-    let sent = Answer::from(message::send(band, characters, samples));
-    let end = sent.count;
+    )?;
+    let end = message::send(band, characters, samples)?;
     disturb::disturb(&mut samples[..end], disturbance);
-    let count = receive::receive(band, &samples[..end], size, events, differences);
-    Answer { number: 0, count }
+    Ok(receive::receive(band, &samples[..end], size, events, differences))
 }
 
-// The number of the first reason to refuse, or 0.
-fn refusal(
+// The first reason to refuse.
+fn check(
     band: u8,
     characters: usize,
     disturbance: &[i16],
@@ -62,19 +58,19 @@ fn refusal(
     samples: usize,
     events: usize,
     differences: usize,
-) -> u8
-    ensures { result ≡ first_of (loopback_tests band characters disturbance.now size samples events differences) }
+) -> Result<(), Refusal>
+    ensures { refusal_number result ≡ first_of (loopback_tests band characters disturbance.now size samples events differences) }
 {
     if !tones::is_band(band) {
-        1
+        Err(Refusal::UnknownBand)
     } else if !is_size(characters, size) {
-        3
+        Err(Refusal::TooMany)
     } else if !tones::are_between(disturbance, -DISTURBANCE, DISTURBANCE) {
-        5
+        Err(Refusal::SampleOutOfRange)
     } else if !is_room(characters, disturbance.len(), samples, events, differences) {
-        4
+        Err(Refusal::TooFewPlaces)
     } else {
-        0
+        Ok(())
     }
 }
 
@@ -82,7 +78,7 @@ fn refusal(
 fn is_size(characters: usize, size: usize) -> bool
     ensures { result ≡ is_size characters size }
 {
-    characters <= MOST_CHARACTERS && 1 <= size && size <= MOST_SAMPLES
+    characters <= MOST_CHARACTERS && (1..=MOST_SAMPLES).contains(&size)
 }
 
 // A number for each sample, and a place for each sample, each event and each difference.

@@ -40,4 +40,5 @@ pub extern "C" fn modem_loopback(
         events,
         differences,
     )
+    .into()
 }

@@ -1,80 +1,51 @@
--- `loopback::receive::receive` meets its contract: each turn reads one block.
+-- Each turn reads one block, and behind the last one nothing is left.
 -- Assumes nothing.
-use mathlib.Core.Path.{◌≡◌, ap, ◌∙◌}
-use mathlib.Core.List.{List}
-use Prim.Native.Nat.{ℕ, ◌+◌, ◌-◌, ◌<◌, ◌≤◌, min}
-use native.Mathlib.Omega.{arith}
-use lib.IntN.{ℤ}
-use lib.ListN.{length, take, drop, length-take}
-use Rattle.tones.specs.Samples.{most_samples}
+use Rattle.std.proofs.Common.{rules, ◌≡◌, ap, ◌∙◌, []}
+use Rattle.std.proofs.lemmas.List.{nil_from_length}
+use Rattle.std.specs.Slice.Iter.{chunks_rest}
 use Rattle.calls.specs.Outcome.{Opening}
 use Rattle.receiver.specs.declared.Receiver.{Receiver}
 use Rattle.receiver.specs.Calls.{fresh}
 use Rattle.receiver.proofs.Ranges.{open_band, fresh_kept}
-use Rattle.loopback.proofs.Receiving.{reading_start, block-samples, block_room, reading_more, reading_count, reading_end}
+use Rattle.loopback.proofs.Receiving.{reading_start, block_sound, block_room, reading_more, reading_count, events_end, differences_end}
 use Rattle.loopback.proofs.receive.receive.Goals as goal
 
--- the block of a turn, from `at` to `end`
-module _ (xs : List ℤ) (at size end : ℕ) (e : end ≡ min (at + size) (length xs)) (t : at < length xs) (s : (1 ≤ size) × (size ≤ most_samples)) where
-  begins : at < end
-  begins = omega (arith, e, t, s.0)
-
-  ends : end ≤ length xs
-  ends = omega (arith, e)
-
-  short : length (take (end - at) (drop at xs)) ≤ most_samples
-  short = omega (arith, e, length-take (end - at) (drop at xs), s.1)
-
-pub loop-at-init : goal.loop-at-init
-loop-at-init c =
+pub loop-block-init : goal.loop-block-init
+loop-block-init c =
     let a = c.args in
-    rw (ap (λ (o : Opening Receiver). o.state) c.open-opened.ensures ∙ open_band a.band c.requires.band_value)
-    (reading_start (fresh a.band) a.samples.now (a.events.now, a.differences.now) (fresh_kept a.band c.requires.band_value))
+    let band = a.band in
+    let opened = ap (λ (o : Opening Receiver). o.state) c.open.ensures ∙ open_band band c.requires.known in
+    let begun = reading_start (fresh band) a.samples.now (a.events.now, a.differences.now) (fresh_kept band c.requires.known) c.requires.sound in
+    record { sized = search rules; read = rw (opened, c.into_iter-block-iterator.ensures.into_iter_gives, c.chunks-block-items.ensures.rest) begun }
 
-pub block_end-end-requires : goal.block_end-end-requires
-block_end-end-requires c = c.loop-at.invariant.inside
+pub read-count-requires-clause-sound : goal.read-count-requires-clause-sound
+read-count-requires-clause-sound c =
+    let d = rw c.in-Some.ensures.steps.1.0 at c.loop-block.invariant.read in
+    block_sound _ _ _ _ _ _ _ _ d
 
-pub read-reading-requires : goal.read-reading-requires
-read-reading-requires c =
-    let l = c.loop-at in
-    let xs = c.args.samples.now in
-    let end = c.block_end-end.result in
-    let b : l.at < end = begins xs l.at c.args.size end c.block_end-end.ensures c.loop-at-test.true c.requires.le_size in
-    let e : end ≤ length xs = omega (arith, c.block_end-end.ensures) in
-    let room = block_room _ _ _ _ _ _ _ l.invariant end (omega (arith, b)) e (c.requires.samples_in_bounds, c.requires.samples_in_bounds_2) in
-    record {
-      receiver_value = l.invariant.kept;
-      block_len_bound = (
-        short xs l.at c.args.size end c.block_end-end.ensures c.loop-at-test.true c.requires.le_size,
-        block-samples _ _ _ _ _ _ _ l.invariant end (omega (arith, b)) e c.requires.samples_value,
-      );
-      block_in_bounds = room.0;
-      block_in_bounds_2 = room.1;
-    }
+pub read-count-requires-clause-room : goal.read-count-requires-clause-room
+read-count-requires-clause-room c =
+    let d = rw c.in-Some.ensures.steps.1.0 at c.loop-block.invariant.read in
+    block_room _ _ _ _ _ _ _ _ d c.requires.room
 
-pub loop-at-smaller : goal.loop-at-smaller
-loop-at-smaller c =
-    let b : c.loop-at.at < c.block_end-end.result = omega (arith, c.block_end-end.ensures, c.loop-at-test.true, c.requires.le_size.0) in
-    omega (arith, b, c.block_end-end.ensures)
+pub loop-block-preserved : goal.loop-block-preserved
+loop-block-preserved c =
+    let steps = c.in-Some.ensures.steps in
+    let d = rw steps.1.0 at c.loop-block.invariant.read in
+    let p = c.read-count.ensures in
+    record { sized = steps.0 ∙ c.loop-block.invariant.sized; read = rw (p.next, p.count, p.told, p.beside) (reading_more _ _ _ _ _ _ _ _ d) }
 
-pub loop-at-preserved : goal.loop-at-preserved
-loop-at-preserved c =
-    let l = c.loop-at in
-    let xs = c.args.samples.now in
-    let end = c.block_end-end.result in
-    let b : l.at < end = begins xs l.at c.args.size end c.block_end-end.ensures c.loop-at-test.true c.requires.le_size in
-    let p = c.read-reading.ensures in
-    rw (p.next, p.told, p.beside)
-    (reading_more _ _ _ _ _ _ _ l.invariant end (omega (arith, b)) (omega (arith, c.block_end-end.ensures)) c.requires.samples_value)
+pub returns-clause-count : goal.returns-clause-count
+returns-clause-count c =
+    let none : chunks_rest c.loop-block.block-iterator ≡ [] = nil_from_length _ c.in-None.ensures.steps.1.0 in
+    reading_count _ _ _ _ _ _ (rw none at c.loop-block.invariant.read)
 
-pub shape_of-events : goal.shape_of-events
-shape_of-events c = c.loop-at.invariant.events.long
+pub returns-clause-told : goal.returns-clause-told
+returns-clause-told c =
+    let none : chunks_rest c.loop-block.block-iterator ≡ [] = nil_from_length _ c.in-None.ensures.steps.1.0 in
+    events_end _ _ _ _ _ _ (rw none at c.loop-block.invariant.read)
 
-pub shape_of-differences : goal.shape_of-differences
-shape_of-differences c = c.loop-at.invariant.differences.long
-
-pub returns : goal.returns
-returns c =
-    let l = c.loop-at in
-    let e = reading_end _ _ _ _ _ _ _ l.invariant c.loop-at-test.false in
-    record { count = reading_count _ _ _ _ _ _ _ l.invariant c.loop-at-test.false; told = e.0; beside = e.1 }
+pub returns-clause-beside : goal.returns-clause-beside
+returns-clause-beside c =
+    let none : chunks_rest c.loop-block.block-iterator ≡ [] = nil_from_length _ c.in-None.ensures.steps.1.0 in
+    differences_end _ _ _ _ _ _ (rw none at c.loop-block.invariant.read)
