@@ -10,7 +10,7 @@ use crate::MOST_PRINTED;
 use arrayvec::ArrayVec;
 use control::Event;
 
-// The names line and a line for each event, given by its number, over the buffer's front, and their length.
+// The names line and a line for each event over the buffer's front, and their length. The events are the numbers that a receiver lists for C.
 #[tactic(auto, using(crate::proofs::Printed::by_lines))]
 pub(crate) fn put_events(out: &mut [u8; MOST_PRINTED], events: &[u16]) -> usize
     requires few { length events.now ≤ most_events }
@@ -29,7 +29,7 @@ pub(crate) fn put_events(out: &mut [u8; MOST_PRINTED], events: &[u16]) -> usize
     at
 }
 
-// An event's place, kind and value.
+// An event's place, kind and value. The line is not made by `write!`, since it does not promise to succeed where there is room.
 #[tactic(auto, using(crate::proofs::Printed::by_parts), unfolding(crate::specs::Lines::event_line))]
 fn event_line(place: u16, event: Event) -> ArrayVec<u8, 14>
     requires { place < 1000 }

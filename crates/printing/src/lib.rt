@@ -18,7 +18,8 @@ pub fn put_refusal(out: &mut [u8], number: u8) -> usize
     lines.len()
 }
 
-// The line `refused` and a line with the number, which has at most three digits.
+// The line `refused` and a line with the number, which has at most three digits. They are not made by `write!`, since it does not promise to
+// succeed where there is room.
 #[tactic(auto, using(crate::proofs::Printing::few_digits), unfolding(crate::specs::Printing::refusal_lines))]
 fn refusal_lines(number: u8) -> ArrayVec<u8, 12>
     ensures { result.items ≡ refusal_lines number }

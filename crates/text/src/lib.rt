@@ -1,4 +1,4 @@
-// Bytes of text: numbers put into a buffer in decimal, and the front of a text.
+// A number's digits put into a buffer, and the front of a text.
 #![tactic(auto)]
 
 ghost use Rattle.std.specs.Prelude.{◌≡◌, length};
