@@ -112,7 +112,9 @@ fn function(path: &str, text: &str, name: &str) -> Checked<Found> {
         Some((of, last)) => (Some(of), last),
         None => (None, name),
     };
-    let has = |of| text.lines().any(|line| line == format!("impl {of} {{"));
+    // Its lifetimes are left out of a name.
+    let bare = |line: &str| line.replace("<'a>", "").replace("<'_>", "");
+    let has = |of| text.lines().any(|line| bare(line) == format!("impl {of} {{"));
     hold(
         of.into_iter().all(has),
         format!("{path} has no impl of {name}"),

@@ -80,6 +80,8 @@ pub fn names_module(root: &str, name: &str, end: &str) -> bool {
 pub fn spellings(text: &str, place: &str, name: &str) -> Vec<String> {
     let is_place = |path: &str| path.replace('.', "/") == place;
     let spelling = |line: &str| {
+        // An import may stand in the block of a struct.
+        let line = line.trim_start();
         let line = line.strip_prefix("ghost ").unwrap_or(line);
         let used = line.strip_prefix("use Rattle.")?;
         if let Some((path, names)) = used.split_once(".{") {
