@@ -39,7 +39,7 @@ impl Bank {
     ghost use Rattle.receiver.specs.Weighed.{decision_by};
 
     // The decision at a window.
-    pub fn decide(&self, window: &[i16; 32]) -> Decision
+    pub(crate) fn decide(&self, window: &[i16; 32]) -> Decision
         requires { are_samples window.now ≡ true }
         ensures { result ≡ decision_by self.now window.now }
     {

@@ -23,7 +23,7 @@ pub(crate) struct Lists<'a> {
 
 impl Lists<'_> {
     // Writes the event, if there is one.
-    pub fn put(&mut self, told: Option<Told>, index: u16)
+    pub(crate) fn put(&mut self, told: Option<Told>, index: u16)
         requires events { self.old.count + length (told_by told) ≤ length self.old.events.now }
         requires differences { self.old.count + length (told_by told) ≤ length self.old.differences.now }
         ensures { Put self.old self.new (with_index index (told_by told)) }

@@ -14,7 +14,7 @@ pub(crate) struct Place {
 
 impl Place {
     // Before a window, where the run is known.
-    pub fn exact(next: usize, run: usize) -> Place
+    pub(crate) fn exact(next: usize, run: usize) -> Place
         ensures { result ≡ exactly next run }
     {
         Place {
@@ -26,7 +26,7 @@ impl Place {
     }
 
     // Further on, where the run is known as at the place, and the levels are good since a window.
-    pub fn moved(self, next: usize, since: usize) -> Place
+    pub(crate) fn moved(self, next: usize, since: usize) -> Place
         ensures { result ≡ moved_to self next since }
     {
         Place {
@@ -37,7 +37,7 @@ impl Place {
     }
 
     // At the first window after which the run can be 32. The windows that are passed over are not judged.
-    pub fn skip(self) -> Place
+    pub(crate) fn skip(self) -> Place
         requires { self.known < 9223372036854775808 }
         ensures { result ≡ skipped self }
     {

@@ -34,7 +34,7 @@ impl Source<'_> {
 
     // Reads the windows from a state on, and writes the events with their differences, and their indices as far as there are places for them.
     // The run at the end is part of the next state.
-    pub fn scan(&self, first: Tracked, lists: &mut Lists) -> Tracked
+    pub(crate) fn scan(&self, first: Tracked, lists: &mut Lists) -> Tracked
         requires few { length (decisions_in self.now) ≤ most_samples }
         requires control { is_control first.control ≡ true }
         requires events { lists.old.count + length (measures_from 0 first (decisions_in self.now)) ≤ length lists.old.events.now }

@@ -19,7 +19,7 @@ impl Source<'_> {
 
     // Goes on with a search that ends at run 32 with space above mark or, if `space` is false, with mark at least space. It stops behind the
     // first window of that tone or the first without a good level: behind the latter the next 31 windows can be passed over.
-    pub fn seek(&self, place: Place, space: bool) -> Sought
+    pub(crate) fn seek(&self, place: Place, space: bool) -> Sought
         requires place { IsPlace (decisions_in self.now) place }
         requires left { place.next < length (decisions_in self.now) }
         ensures { Seeks (decisions_in self.now) place space result }
@@ -44,7 +44,7 @@ impl Source<'_> {
 
     // The run at a place. Before the windows that are known to have a good level, others are judged, the last one first, until one has none,
     // 32 have one, or the window is reached before which the run is known.
-    pub fn run_back(&self, place: Place) -> usize
+    pub(crate) fn run_back(&self, place: Place) -> usize
         requires { IsPlace (decisions_in self.now) place }
         ensures { result ≡ run_at (decisions_in self.now) place }
     {

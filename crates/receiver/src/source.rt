@@ -25,7 +25,7 @@ impl<'a> Source<'a> {
     ghost use Rattle.receiver.specs.AsCoded.{decisions_in};
 
     // The windows that the samples of a block complete.
-    pub fn new(band: u8, window: &[i16; 32], samples: &'a [i16]) -> Source<'a>
+    pub(crate) fn new(band: u8, window: &[i16; 32], samples: &'a [i16]) -> Source<'a>
         requires window { are_samples window.now ≡ true }
         requires samples { are_samples samples.now ≡ true }
         ensures { decisions_in result ≡ decisions_of band (drop 1 window.now ++ samples.now) }
@@ -38,14 +38,14 @@ impl<'a> Source<'a> {
     }
 
     // There is one for each sample.
-    pub fn len(&self) -> usize
+    pub(crate) fn len(&self) -> usize
         ensures { result ≡ length (decisions_in self.now) }
     {
         self.samples.len()
     }
 
     // The decision at window i, which ends with sample i.
-    pub fn judge(&self, i: usize) -> Decision
+    pub(crate) fn judge(&self, i: usize) -> Decision
         requires { i < length (decisions_in self.now) }
         ensures { result ≡ judged (decisions_in self.now) i }
     {
