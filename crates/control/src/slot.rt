@@ -31,8 +31,8 @@ pub(crate) fn take_slot(slot: u8, byte: u8, d: Decision) -> Next
 // processor foresees the answer.
 #[tactic(auto, using(crate::proofs::Ranges::slot_below))]
 fn take_bit(slot: u8, byte: u8, bit: Bit) -> Next
-    requires le_slot { 1 ≤ slot }
-    requires byte_value { is_slot slot byte ≡ true }
+    requires behind_start { 1 ≤ slot }
+    requires in_range { is_slot slot byte ≡ true }
     ensures { result ≡ bit_taken slot byte bit }
 {
     if bit == Bit::Doubtful {
