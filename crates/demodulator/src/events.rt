@@ -9,7 +9,6 @@ ghost use Rattle.demodulator.specs.Lines.{events_text};
 
 use crate::MOST_PRINTED;
 use crate::lines::put_events;
-use calls::Answer;
 use receiver::Receiver;
 
 // The lines of the samples' events over the buffer's front, and their length.
@@ -20,12 +19,10 @@ pub(crate) fn put_events_of(band: u8, samples: &[i16], out: &mut [u8; MOST_PRINT
     ensures count { result ≡ length (events_text (events_after (fresh band) samples.now)) }
     ensures lent { out.new ≡ over (events_text (events_after (fresh band) samples.now)) out.old }
 {
-    let opened = Receiver::open(band);
-    let fresh = opened.state;
+    let fresh = Receiver::open(band).state;
     let mut events = [0u16; receiver::MOST_EVENTS];
     let mut differences = [0i64; receiver::MOST_EVENTS];
     let reading = fresh.block(samples, &mut events, &mut differences);
-    let answer = Answer::from(reading.answer);
-    let n = answer.count;
-    put_events(out, &events[..n])
+    let count = reading.answer.unwrap();
+    put_events(out, &events[..count])
 }

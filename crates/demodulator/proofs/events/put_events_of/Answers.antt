@@ -1,20 +1,19 @@
 -- `demodulator::events::put_events_of` meets its contract: the block is accepted, and its events are printed.
 -- Assumes nothing.
-use mathlib.Core.Path.{◌≡◌, sym, ap, ◌∙◌, subst}
+use mathlib.Core.Path.{◌≡◌, refl, sym, ap, ap₂, ◌∙◌}
 use mathlib.Core.Bool.{true}
 use mathlib.Core.List.{List}
 use Prim.Native.Nat.{ℕ, ◌≤◌}
 use native.Mathlib.Omega.{arith}
-use borrow.Author.Rules.{rules}
 use lib.IntN.{ℤ, pos}
-use lib.ListN.{length, replicate, take}
-use Rattle.integers.specs.All.{All}
-use Rattle.calls.specs.declared.Answer.{Answer}
-use Rattle.calls.specs.Outcome.{Outcome, Opening, outcome, accepted, over}
-use Rattle.calls.proofs.Answers.{given-front, given_part, given_room}
+use lib.ListN.{length, replicate, take, drop, length-append}
+use lib.Seq.{take_at}
+use Rattle.std.specs.Prelude.{Result, Ok}
+use Rattle.calls.specs.declared.Refusal.{Refusal}
+use Rattle.calls.specs.Outcome.{Outcome, Opening, as_answer, outcome, accepted, over}
+use Rattle.calls.proofs.Refusals.{answer-ok}
 use Rattle.tones.specs.Bands.{is_band}
 use Rattle.tones.specs.Samples.{most_samples, are_samples}
-use Rattle.control.specs.Rules.{is_event}
 use Rattle.receiver.specs.declared.Receiver.{Receiver}
 use Rattle.receiver.specs.Step.{state_after, events_after}
 use Rattle.receiver.specs.Calls.{EventLists, fresh, most_events, open_of, block_of}
@@ -35,66 +34,64 @@ module _ (band : ℕ) (known : is_band band ≡ true) (xs : List ℤ) (few : len
   abbrev s : Receiver
   s = fresh band
 
-  abbrev Given : Outcome Receiver (List ℕ) → Type 0
-  Given read = read ≡ accepted (state_after s xs) (events_after s xs) places
+  abbrev given-events : List ℕ
+  given-events = events_after s xs
 
-  given : (o : Opening Receiver) → o ≡ open_of band → (read : Outcome Receiver (List ℕ × List ℤ))
-      → read ≡ block_of o.state xs (places, difference-places) → Given (numbers_alone s xs read)
-  given o e read block =
-      ap (numbers_alone s xs)
-      (block
-      ∙ ap (λ (r : Receiver). block_of r xs (places, difference-places)) (ap (λ (p : Opening Receiver). p.state) e ∙ open_band band known)
-      ∙ block_0 s xs (places, difference-places) (fresh_kept band known) few sound (omega (arith, few)))
-      ∙ read-numbers s xs (places, difference-places)
+  module _ (o : Opening Receiver) (e : o ≡ open_of band) (r : Result ℕ Refusal) (t : Receiver) (left : EventLists)
+      (block : outcome (as_answer r) t left ≡ block_of o.state xs (places, difference-places)) where
+    given : numbers_alone s xs (outcome (as_answer r) t left) ≡ accepted (state_after s xs) given-events places
+    given =
+        ap (numbers_alone s xs)
+        (block
+        ∙ ap (λ (f : Receiver). block_of f xs (places, difference-places)) (ap (λ (p : Opening Receiver). p.state) e ∙ open_band band known)
+        ∙ block_0 s xs (places, difference-places) (fresh_kept band known) few sound (omega (arith, few)))
+        ∙ read-numbers s xs (places, difference-places)
 
-  module _ (read : Outcome Receiver (List ℕ)) (g : Given read) where
-    room : read.count ≤ length read.lent
-    room = given_room (state_after s xs) (events_after s xs) places read g
+    ok : r ≡ Ok (length given-events)
+    ok = answer-ok r (ap (λ (p : Outcome Receiver (List ℕ)). p.number) given) ∙ ap (λ (p : Outcome Receiver (List ℕ)). Ok p.count) given
 
-    part : read.count ≡ length (take read.count read.lent)
-    part = given_part (state_after s xs) (events_after s xs) places read g
+    -- the count covers the events
+    module _ (count : ℕ) (is : r ≡ Ok count) where
+      counted : count ≡ length given-events
+      counted = let both = sym is ∙ ok in cc
 
-    front : take read.count read.lent ≡ events_after s xs
-    front = given-front (state_after s xs) (events_after s xs) places read g
+      front : take count left.0 ≡ given-events
+      front = ap₂ take counted (ap (λ (p : Outcome Receiver (List ℕ)). p.lent) given) ∙ take_at given-events (drop (length given-events) places) (length given-events) refl
 
--- what it answers, as an outcome
-answered : {a b : Answer} {t : Receiver} {left : EventLists} {o : Outcome Receiver EventLists} → a ≡ b → outcome b t left ≡ o → outcome a t left ≡ o
-answered {t = t} {left} e f = ap (λ (x : Answer). outcome x t left) e ∙ f
+      room : count ≤ length left.0
+      room = omega (arith, counted, ap length (ap (λ (p : Outcome Receiver (List ℕ)). p.lent) given), length-append given-events (drop (length given-events) places))
+
+pub unwrap-count-requires : goal.unwrap-count-requires
+unwrap-count-requires c =
+    let q = c.requires in
+    let a = c.args in
+    rw (ok a.band q.band a.samples.now q.few q.sound _ c.open.ensures _ _ _ c.block-reading.ensures)
 
 pub slice_bounds-events-end : goal.slice_bounds-events-end
 slice_bounds-events-end c =
     let q = c.requires in
     let a = c.args in
-    room a.band q.band a.samples.now q.few q.sound _
-    (given a.band q.band a.samples.now q.few q.sound _ c.open-opened.ensures _ (answered c.from-answer.ensures c.block-reading.ensures))
+    room a.band q.band a.samples.now q.few q.sound _ c.open.ensures _ _ _ c.block-reading.ensures _ c.unwrap-count.ensures
 
 pub slice_bounds-put_events-end : goal.slice_bounds-put_events-end
 slice_bounds-put_events-end c =
     let q = c.requires in
     let a = c.args in
-    part a.band q.band a.samples.now q.few q.sound _
-    (given a.band q.band a.samples.now q.few q.sound _ c.open-opened.ensures _ (answered c.from-answer.ensures c.block-reading.ensures))
+    counted a.band q.band a.samples.now q.few q.sound _ c.open.ensures _ _ _ c.block-reading.ensures _ c.unwrap-count.ensures
+    ∙ sym (ap length (front a.band q.band a.samples.now q.few q.sound _ c.open.ensures _ _ _ c.block-reading.ensures _ c.unwrap-count.ensures))
 
-pub put_events-requires : goal.put_events-requires
-put_events-requires c =
+pub put_events-requires-clause-known : goal.put_events-requires-clause-known
+put_events-requires-clause-known c =
     let q = c.requires in
     let a = c.args in
-    let g = given a.band q.band a.samples.now q.few q.sound _ c.open-opened.ensures _ (answered c.from-answer.ensures c.block-reading.ensures) in
-    let f = front a.band q.band a.samples.now q.few q.sound _ g in
-    let r = room a.band q.band a.samples.now q.few q.sound _ g in
-    let p = part a.band q.band a.samples.now q.few q.sound _ g in
-    let l : length c.block-reading.new.events ≡ most_events = search rules in
-    record {
-      few = omega (arith, l, r, p);
-      known = subst (All (λ event. is_event event ≡ true)) (sym f) (events-known (fresh a.band) a.samples.now (fresh_kept a.band q.band));
-    }
+    rw (front a.band q.band a.samples.now q.few q.sound _ c.open.ensures _ _ _ c.block-reading.ensures _ c.unwrap-count.ensures)
+    (events-known (fresh a.band) a.samples.now (fresh_kept a.band q.band))
 
 pub returns : goal.returns
 returns c =
     let q = c.requires in
     let a = c.args in
-    let g = given a.band q.band a.samples.now q.few q.sound _ c.open-opened.ensures _ (answered c.from-answer.ensures c.block-reading.ensures) in
-    let e = ap events_text (front a.band q.band a.samples.now q.few q.sound _ g) in
+    let e = ap events_text (front a.band q.band a.samples.now q.few q.sound _ c.open.ensures _ _ _ c.block-reading.ensures _ c.unwrap-count.ensures) in
     let p = c.put_events.ensures in
     record {
       count = p.count ∙ ap length e;
