@@ -1,23 +1,22 @@
 -- What is known if a block call is not refused, that it is accepted then, and what the code gives when it refuses.
 -- Assumes nothing.
+use Rattle.std.proofs.Common.{rules}
 use mathlib.Core.Path.{◌≡◌, refl, sym, ap, ◌∙◌}
 use mathlib.Core.Bool.{Bool, true, cond}
 use mathlib.Core.List.{List, map, map-map}
 use Prim.Native.Nat.{ℕ, zero, suc, ◌+◌, ◌≤◌}
 use native.Mathlib.Nat.{zero-add}
 use native.Mathlib.Omega.{arith}
-use borrow.Author.Tests.{le-ltb, ltb-false, not-false}
 use lib.Dec.{eqb, eqb-suc-zero}
 use lib.IntN.{ℤ}
 use lib.ListN.{length, length-map}
 use lib.Seq.{sets}
 use Rattle.std.specs.Prelude.{Ok}
-use Rattle.integers.specs.All.{none, more}
 use Rattle.integers.proofs.Lists.{sets-front}
 use Rattle.calls.specs.Refusals.{first_of}
 use Rattle.calls.specs.declared.Answer.{Answer}
 use Rattle.calls.specs.Outcome.{Outcome, outcome, as_answer, refused, over, accepted_in, one_list, both_in, accepted}
-use Rattle.calls.proofs.Refusals.{NoneHolds, none-holds, not-refused, refused_or, answer_given}
+use Rattle.calls.proofs.Refusals.{refused_or, answer_given}
 use Rattle.calls.proofs.Indexed.{values, indices, indexed_values}
 use Rattle.calls.proofs.Lists.{Keeps, one_keeps, both_keep}
 use Rattle.tones.specs.Samples.{most_samples, are_samples}
@@ -38,19 +37,10 @@ module _ (range : Bool) (xs : List ℤ) (needed places : ℕ) where
     pub room : needed ≤ places
 
   pub tests_known : first_of (tests_of range xs needed places) ≡ 0 → Passed
-  tests_known e = known (none-holds (tests_of range xs needed places) _ e)
-    where
-      known : NoneHolds (tests_of range xs needed places) → Passed
-      known (more r (more l (more a (more p none)))) =
-          record {
-            ranged = not-false range r;
-            few = ltb-false most_samples (length xs) l;
-            sound = not-false (are_samples xs) a;
-            room = ltb-false places needed p;
-          }
+  tests_known e = search rules
 
   pub tests_0 : Passed → first_of (tests_of range xs needed places) ≡ 0
-  tests_0 k = simp (k.ranged, le-ltb most_samples (length xs) k.few, k.sound, le-ltb places needed k.room)
+  tests_0 k = search rules
 
 -- the two lists keep what is put to their front
 pub two_keep : Keeps two_lists
@@ -71,9 +61,7 @@ module _ (s : Receiver) (xs : List ℤ) where
     pub block_0 : in_range s ≡ true → length xs ≤ most_samples → are_samples xs ≡ true → places_for (length xs) ≤ shorter lent
         → block_of s xs lent ≡ read lent
     unfolding block_of
-    block_0 r l a p =
-        not-refused (block_tests s xs (shorter lent)) s lent (read lent)
-        (tests_0 (in_range s) xs (places_for (length xs)) (shorter lent) (record { ranged = r; few = l; sound = a; room = p }))
+    block_0 r l a p = search rules
 
     -- what holds of every refusal and of an accepted call holds of a call
     pub block_case : (P : Outcome Receiver EventLists → Type 0) → ((n : ℕ) → P (refused (suc n) s lent))

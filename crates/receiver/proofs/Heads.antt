@@ -1,8 +1,9 @@
 -- The two short lists that the code makes of a block: the head, which joins the old window and the first samples, and the last
 -- window. From the laws of stores.
 -- Assumes nothing.
+use Rattle.std.proofs.lemmas.Grind.{common_steps}
 use mathlib.Core.Path.{◌≡◌, sym, ap, ap₂, ◌∙◌}
-use mathlib.Core.List.{List, ◌++◌, append-nil, append_assoc}
+use mathlib.Core.List.{List, ◌++◌, append-nil}
 use Prim.Native.Nat.{ℕ, ◌+◌, ◌-◌, min}
 use native.Mathlib.Omega.{arith}
 use borrow.Rule.Slice.PartMut.{put_mid}
@@ -13,9 +14,7 @@ use Rattle.integers.proofs.Tests.{lt_or_le}
 
 -- b stored behind a list a
 over_end : (a rest b : List ℤ) (i k : ℕ) → length a ≡ i → put_mid i k (a ++ rest) b ≡ (a ++ b) ++ drop k (drop i (a ++ rest))
-over_end a rest b i k l =
-    let end : List ℤ = drop k (drop i (a ++ rest)) in
-    ap (λ (xs : List ℤ). xs ++ (b ++ end)) (take_at a rest i l) ∙ sym (append_assoc a b end)
+over_end a rest b i k l = grind (arith, common_steps)
 
 -- the head: the window and the first n samples, stored one behind the other
 pub head_is : (window samples rest a b : List ℤ) (n : ℕ) → length window ≡ 32 → n ≡ min (length samples) 31 → a ≡ window → b ≡ take n samples

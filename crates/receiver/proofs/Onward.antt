@@ -1,6 +1,7 @@
 -- From one place in a list of decisions to another: how a search goes on, what it comes to, and how a wait does. From the laws of places
 -- and of stretches of decisions.
 -- Assumes nothing.
+use Rattle.std.proofs.Common.{rules}
 use mathlib.Core.Path.{◌≡◌, refl, sym, ap, ◌∙◌}
 use mathlib.Core.Bool.{Bool, true, false, cond, beq}
 use mathlib.Core.List.{List, [], ◌∷◌, ◌++◌}
@@ -27,7 +28,7 @@ use Rattle.control.proofs.Stretches.{run-low, found_other, none_short, none_more
 use Rattle.quality.specs.declared.Measured.{Measured}
 use Rattle.quality.specs.Quality.{least_with, takes_bit}
 use Rattle.quality.specs.AsCoded.{measured_by}
-use Rattle.quality.proofs.Stretches.{behind, numbers_with, tracked, slot-behind, Leads, lead_more, waits, searches}
+use Rattle.quality.proofs.Stretches.{behind, numbers_with, slot-behind, Leads, lead_more, waits, searches}
 use Rattle.receiver.specs.declared.place.Place.{Place}
 use Rattle.receiver.specs.declared.seek.Sought.{Sought}
 use Rattle.receiver.specs.declared.scan.Turn.{Turn}
@@ -109,7 +110,7 @@ module _ (ds : List Decision) (p : Place) where
         known_i = omega (arith, known-first ds p v, s.later)
 
         none_i : NoneFound space (run_at ds p) (slice p.next (i + 1 - 1) ds)
-        none_i = let e : i + 1 - 1 ≡ i = omega arith in rw e s.none
+        none_i = search rules
 
         -- another tone
         pub seek_other : (judged ds i).good ≡ true → beq (judged ds i).space space ≡ false → Seeking space (i + 1) since
@@ -173,13 +174,7 @@ module _ (ds : List Decision) (from : Standing) where
 
     onward_led : (t : Turn) → p.next < t.to.place.next → IsPlace ds t.to.place → run_at ds t.to.place ≡ run_before ds p t.to.place.next
         → Led t.to.place.next t.to.stage t.to.smallest (with_index (t.to.place.next - 1) (told_by t.told)) → Onward ds from t
-    onward_led t h w e a =
-        record {
-          later = h;
-          place = w;
-          state = a.state ∙ sym (λ j. tracked (e j) t.to.stage t.to.smallest);
-          events = a.told;
-        }
+    onward_led t h w e a = search rules
 
     -- what a search comes to
     pub search_onward : {space : Bool} {next : Stage} → IsSearch space from.stage next → takes_bit from.stage ≡ false → (s : Sought)

@@ -1,5 +1,7 @@
 -- Places in a list of decisions, and the run at a place from the last decisions before it. From the laws of the run over a list.
 -- Assumes nothing.
+use Rattle.std.proofs.lemmas.Grind.{common_steps}
+use Rattle.std.proofs.Common.{rules}
 use mathlib.Core.Path.{◌≡◌, sym, ap, ◌∙◌}
 use mathlib.Core.Bool.{true, false}
 use mathlib.Core.List.{List, [], ◌∷◌, ◌++◌}
@@ -7,7 +9,6 @@ use Prim.Native.Nat.{ℕ, zero, suc, ◌+◌, ◌-◌, ◌<◌, ◌≤◌, min, 
 use native.Mathlib.Omega.{arith}
 use lib.ListN.{length}
 use lib.Seq.{slice, slice_empty, length-slice}
-use Rattle.integers.proofs.Tests.{lt_or_le}
 use Rattle.integers.proofs.Lists.{slice-join, slice-more}
 use Rattle.calls.specs.Runs.{after}
 use Rattle.control.specs.declared.Decision.{Decision}
@@ -26,7 +27,7 @@ module _ (ds : List Decision) where
   -- ---- places
 
   pub place_exact : (i run : ℕ) → i ≤ length ds → run ≤ 32 → IsPlace ds (exactly i run)
-  place_exact i run h l = record { based = omega arith; passed = omega arith; inside = h; low = l; level = λ j a b. absurd (omega arith) }
+  place_exact i run h l = search rules
 
   -- the run at a place where it is known
   pub run_exact : (i run : ℕ) → run_at ds (exactly i run) ≡ run
@@ -48,19 +49,11 @@ module _ (ds : List Decision) where
 
       -- nothing is known of the decisions between
       pub place_moved : (i : ℕ) → p.next ≤ i → i ≤ length ds → IsPlace ds (moved_to p i i)
-      place_moved i h l =
-          record { based = omega (arith, known-first); passed = omega arith; inside = l; low = v.low; level = λ j a b. absurd (omega arith) }
+      place_moved i h l = search rules
 
       -- one more level is good
       pub place-more : (i since : ℕ) → IsPlace ds (moved_to p i since) → i < length ds → (judged ds i).good ≡ true → IsPlace ds (moved_to p (i + 1) since)
-      place-more i since w l g =
-          record {
-            based = w.based;
-            passed = omega (arith, w.passed);
-            inside = omega arith;
-            low = w.low;
-            level = λ j a b. lt_or_le j i (λ c. w.level j a c) (λ c. let e : j ≡ i = omega arith in ap (λ (n : ℕ). (judged ds n).good) e ∙ g);
-          }
+      place-more i since w l g = search rules
 
       -- ---- the run
 
@@ -73,7 +66,7 @@ module _ (ds : List Decision) where
 
       pub run_more : (i : ℕ) → p.known ≤ i → i < length ds → run_before ds p (i + 1) ≡ run_after (run_before ds p i) (judged ds i).good
       unfolding after
-      run_more i h l = ap (run_over p.ran) (decision_more p.known i h l) ∙ run_append p.ran (slice p.known i ds) (judged ds i ∷ [])
+      run_more i h l = grind (arith, common_steps)
 
       -- behind a level that is not good
       pub run_bad : (i : ℕ) → p.known ≤ i → i < length ds → (judged ds i).good ≡ false → run_before ds p (i + 1) ≡ 0
@@ -116,10 +109,4 @@ module _ (ds : List Decision) where
 
       pub back_all : (i : ℕ) → Back i → i ≤ max p.known (p.next - 32) → min (p.ran + (p.next - p.known)) 32 ≡ run_at ds p
       unfolding after
-      back_all i b h =
-          lt_or_le p.known i
-          (λ l. omega (arith, b.run, b.before))
-          (λ l.
-          let e : i ≡ p.known = omega (arith, b.behind) in
-          let r : run_before ds p i ≡ p.ran = ap (run_before ds p) e ∙ ap (run_over p.ran) (slice_empty p.known ds) in
-          omega (arith, b.run))
+      back_all i b h = grind (arith, common_steps)

@@ -1,7 +1,8 @@
 -- What the range tests of a state say, and that the step rule keeps the ranges.
 -- Assumes nothing.
+use Rattle.std.proofs.Common.{rules}
 use mathlib.Core.Path.{◌≡◌, refl, ◌∙◌}
-use mathlib.Core.Bool.{Bool, true, ◌&&◌}
+use mathlib.Core.Bool.{true}
 use mathlib.Core.List.{List, [], ◌∷◌}
 use mathlib.Mathlib.Data.Bool.Basic.{and_elim_left, and_elim_right, and_intro}
 use Prim.Native.Nat.{ℕ}
@@ -28,22 +29,11 @@ pub record InRange (s : Receiver) : Type 0 where
 
 pub in_range_lem : (s : Receiver) → in_range s ≡ true → InRange s
 unfolding in_range
-in_range_lem s h =
-    let kept : Bool = is_kept s.stage s.smallest in
-    let tracked : Bool = is_control (control_of s) && kept in
-    let rest : Bool = are_samples s.window && tracked in
-    let t : rest ≡ true = and_elim_right (is_band s.band) rest h in
-    let u : tracked ≡ true = and_elim_right (are_samples s.window) tracked t in
-    record {
-      band = and_elim_left (is_band s.band) rest h;
-      window = and_elim_left (are_samples s.window) tracked t;
-      control = and_elim_left (is_control (control_of s)) kept u;
-      kept = and_elim_right (is_control (control_of s)) kept u;
-    }
+in_range_lem s h = search rules
 
 pub from_ranges : (s : Receiver) → InRange s → in_range s ≡ true
 unfolding in_range
-from_ranges s r = and_intro r.band (and_intro r.window (and_intro r.control r.kept))
+from_ranges s r = search rules
 
 step_kept : (s : Receiver) (x : ℤ) → in_range s ≡ true → is_sample x ≡ true → in_range (after_sample s x) ≡ true
 unfolding after_sample tracked_after are_between

@@ -1,7 +1,8 @@
 -- The reading of a block's windows from place to place: what holds at each place, and at the end. From the laws of places and those of lists
 -- that are filled.
 -- Assumes nothing.
-use mathlib.Core.Path.{◌≡◌, refl, sym, ap, ◌∙◌}
+use Rattle.std.proofs.Common.{rules}
+use mathlib.Core.Path.{◌≡◌, sym, ap, ◌∙◌}
 use mathlib.Core.Bool.{true}
 use mathlib.Core.List.{List, [], ◌++◌, map, map-append}
 use Prim.Native.Nat.{ℕ, ◌+◌, ◌-◌, ◌≤◌, zero-le}
@@ -31,8 +32,7 @@ use Rattle.receiver.proofs.Places.{place_exact, run_exact}
 -- ---- lists that are filled
 
 pub put_none : (l : Lists) → Put l l []
-put_none l =
-    record { count = omega arith; events = refl; differences = refl; indices = refl; same = record { events = refl; differences = refl; indices = refl } }
+put_none l = search rules
 
 -- one side of events put behind others
 side_more : {A : Type 0} (f : (ℕ × ℤ) × ℕ → A) (xs ys : List ((ℕ × ℤ) × ℕ)) (l m n : List A) (i j : ℕ) → j ≡ i + length xs

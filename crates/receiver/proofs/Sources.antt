@@ -1,6 +1,7 @@
 -- The windows that the code takes from the head and the block: one ends with each sample, and where the code finds it. And that the head
 -- which the code makes holds those that begin before the block.
 -- Assumes nothing.
+use Rattle.std.proofs.Common.{rules}
 use mathlib.Core.Path.{◌≡◌, sym, ap, ◌∙◌}
 use mathlib.Core.Bool.{true}
 use mathlib.Core.List.{List, ◌++◌}
@@ -40,9 +41,7 @@ module _ (s : Source) where
 
   -- it is found in the head, or in the block
   pub window-begun : (i : ℕ) → i < 31 → i < length xs → take (i + 33 - (i + 1)) (drop (i + 1) s.head) ≡ take 32 (drop i all)
-  window-begun i h l =
-      let e : i + 33 - (i + 1) ≡ 32 = omega arith in
-      ap (λ (n : ℕ). take n (drop (i + 1) s.head)) e ∙ s.sound.begun i h l
+  window-begun i h l = search rules
 
   pub window-whole : (i : ℕ) → 31 ≤ i → take (i + 1 - (i - 31)) (drop (i - 31) xs) ≡ take 32 (drop i all)
   window-whole i h =

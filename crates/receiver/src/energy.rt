@@ -54,6 +54,7 @@ impl Tone {
     ghost use Rattle.receiver.specs.Weighed.{energy_by};
 
     // A cosine is the sine a quarter of a cycle ahead.
+    #[tactic(auto, using(crate::proofs::Energies::sines_small))]
     fn of(step: u16) -> Tone
         ensures cos { result.cos ≡ wave 32 step 480 }
         ensures sin { result.sin ≡ wave 32 step 0 }

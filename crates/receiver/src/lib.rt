@@ -41,6 +41,7 @@ pub struct Receiver {
 
 impl Receiver {
     // The fresh state of a band: the specification's opening. A refused one gives the fresh state of band 1.
+    #[tactic(auto, unfolding(crate::specs::Calls::open_of))]
     pub fn open(band: u8) -> Answered<Receiver, ()>
         ensures { opened result ≡ open_of band }
     {
