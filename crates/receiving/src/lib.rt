@@ -3,19 +3,20 @@
 #![tactic(auto)]
 
 ghost use Rattle.std.specs.Prelude.{◌≡◌};
-ghost use Rattle.calls.specs.Outcome.{answer_of, outcome};
+ghost use Rattle.calls.specs.Outcome.{answer_of, opened, outcome};
 ghost use Rattle.receiver.specs.Calls.{open_of};
 ghost use Rattle.receiving.specs.Numbers.{receiver_of, numbers_of, opened_numbers, reading_numbers, block_numbers, indexed_numbers};
 
 pub mod testing;
 
-use calls::{Answer, Answered};
+use calls::Answered;
 use control::Stage;
 use receiver::Receiver;
 
-// A receiver's state as numbers, since C has no enums with fields. Stage 0 is searching, stage 1 is waiting, with its wait, slot and byte, and stage 2 is a held break; where
+// A receiver's state as numbers. Stage 0 is searching, stage 1 is waiting, with its wait, slot and byte, and stage 2 is a held break; where
 // a call gives 0 or 2, these three are 0. Any other stage is out of its range. Where `measured` is 1, `smallest` is the smallest difference so
 // far; where it is 0 there is none, and a call gives 0 for both. Any other number of it is out of its range.
+// The stage and the smallest difference are numbers here, since C has no enum with fields and no `Option`.
 #[repr(C)]
 #[derive(Clone, Copy)]
 pub struct State {
@@ -30,7 +31,7 @@ pub struct State {
     pub smallest: i64,
 }
 
-// What an opening answers: the number, which C gets in place of a `Result`, and the fresh state of the band, or of band 1 if it is refused.
+// What an opening answers: the number, and the fresh state of the band, or of band 1 if it is refused. A number, since C has no `Result`.
 #[repr(C)]
 #[derive(Clone, Copy)]
 pub struct Opening {
@@ -38,8 +39,8 @@ pub struct Opening {
     pub receiver: State,
 }
 
-// What a block call answers: the next state, the number, and the count of events. No struct of a type parameter goes to C, so the tap's calls have
-// a struct of their own.
+// What a block call answers: the next state, the number, and the count of events. Two numbers, since C has no `Result`; and the tap's call
+// has a struct of its own, since one with a type parameter cannot be handed to C.
 #[repr(C)]
 #[derive(Clone, Copy)]
 pub struct Block {
@@ -52,14 +53,7 @@ pub struct Block {
 pub fn modem_receiver_open(band: u8) -> Opening
     ensures { result ≡ opened_numbers (open_of band) }
 {
-    let opened = Receiver::open(band);
-    Opening {
-        number: match opened.answer {
-            Ok(()) => 0,
-            Err(refusal) => refusal.into(),
-        },
-        receiver: State::from(opened.state),
-    }
+    Receiver::open(band).into()
 }
 
 // Reads a block of samples: the numbers of its events go to `events`, and the difference of each to its place in `differences`. A refused call
@@ -74,7 +68,7 @@ pub fn modem_receiver_block(
         ≡ block_numbers receiver samples.now (events.old, differences.old) }
 {
     let reading = Receiver::from(receiver).block(samples, events, differences);
-    reading_numbers(reading, receiver)
+    Block::new(reading, receiver)
 }
 
 // The same, and with which sample of the block each event came: its index goes to the event's place in `indices`.
@@ -89,24 +83,38 @@ pub fn modem_receiver_block_indexed(
         ≡ indexed_numbers receiver samples.now ((events.old, differences.old), indices.old) }
 {
     let reading = Receiver::from(receiver).block_indexed(samples, events, differences, indices);
-    reading_numbers(reading, receiver)
+    Block::new(reading, receiver)
 }
 
-// What a block call on a state hands back, from what an entry of the receiver gave: the next state if it was accepted, and the state as
-// it was handed if not.
-fn reading_numbers(reading: Answered<Receiver, usize>, handed: State) -> Block
-    ensures { result ≡ reading_numbers reading handed }
-{
-    let answer = Answer::from(reading.answer);
-    let accepted = answer.number == 0;
-    Block {
-        receiver: if accepted {
-            State::from(reading.state)
-        } else {
-            handed
-        },
-        number: answer.number,
-        count: answer.count,
+impl From<Answered<Receiver, ()>> for Opening {
+    ghost from_gives = { λ a n. n ≡ opened_numbers (opened a) };
+
+    fn from(opening: Answered<Receiver, ()>) -> Opening {
+        Opening {
+            number: opening.answer.err().map_or(0, u8::from),
+            receiver: opening.state.into(),
+        }
+    }
+}
+
+impl Block {
+    // What a block call on a state hands back, from what an entry of the receiver gave: the next state if it was accepted, and the state as
+    // it was handed if not.
+    fn new(reading: Answered<Receiver, usize>, handed: State) -> Block
+        ensures { result ≡ reading_numbers reading handed }
+    {
+        match reading.answer {
+            Ok(count) => Block {
+                receiver: reading.state.into(),
+                number: 0,
+                count,
+            },
+            Err(refusal) => Block {
+                receiver: handed,
+                number: refusal.into(),
+                count: 0,
+            },
+        }
     }
 }
 

@@ -3,7 +3,7 @@ ghost use Rattle.std.specs.Prelude.{◌≡◌};
 ghost use Rattle.calls.specs.Outcome.{answer_of, outcome};
 ghost use Rattle.receiving.specs.Numbers.{block_numbers};
 
-use crate::{Block, State, reading_numbers};
+use crate::{Block, State};
 use receiver::Receiver;
 
 // Reads a block of samples through the receiver's second entry, to which the state is lent.
@@ -17,5 +17,5 @@ pub fn modem_test_block_lent(
         ≡ block_numbers receiver samples.now (events.old, differences.old) }
 {
     let reading = lent::block_by_value(Receiver::from(receiver), samples, events, differences);
-    reading_numbers(reading, receiver)
+    Block::new(reading, receiver)
 }

@@ -9,12 +9,14 @@ use native.Mathlib.Omega.{arith}
 use lib.IntN.{ℤ}
 use lib.ListN.{length, take, drop, length-map}
 use lib.Seq.{sets, take-append_seam}
+use Rattle.std.specs.Prelude.{Ok, Err}
 use Rattle.integers.specs.All.{All, none, more}
 use Rattle.integers.proofs.Lists.{sets-front}
-use Rattle.calls.specs.Refusals.{first_of}
-use Rattle.calls.specs.Outcome.{Outcome, outcome, refused, is_accepted, over, accepted_in}
+use Rattle.calls.specs.declared.Refusal.{Refusal}
+use Rattle.calls.specs.Refusals.{number_of, first_of}
+use Rattle.calls.specs.Outcome.{Outcome, as_answer, outcome, refused, is_accepted, over, accepted_in}
 use Rattle.calls.specs.Runs.{after}
-use Rattle.calls.proofs.Refusals.{not-refused, is-refused, refused_or}
+use Rattle.calls.proofs.Refusals.{not-refused, answer_refused, refused_or}
 use Rattle.calls.proofs.Indexed.{values, indices}
 use Rattle.tones.specs.Bands.{is_pair}
 use Rattle.tones.proofs.Laws.{band-digit, pair-known}
@@ -29,7 +31,6 @@ use Rattle.receiver.proofs.Events.{events-known}
 use Rattle.receiver.proofs.Calls.{Passed, tests_known, tests_0, Readable, indexed, told_values, told-count}
 use Rattle.receiver.proofs.Indexed.{indexed-number}
 use Rattle.tap.specs.declared.Tap.{Tap}
-use Rattle.tap.specs.declared.TapReading.{TapReading}
 use Rattle.tap.specs.Step.{measured_in, after_sample, state_after, measured_after}
 use Rattle.tap.specs.Calls.{in_range, places_for, block_tests, block_of}
 use Rattle.tap.specs.AsCoded.{merged, banded, AreEvents, listed, merged_events, numbers_of, differences_of}
@@ -227,12 +228,10 @@ module _ (t : Tap) (xs : List ℤ) where
     both_case P refuses reads =
         refused_or (block_tests t xs (shorter lent)) t lent (read lent) P refuses (λ e. reads (both_known (shorter lent) e))
 
-    -- what the code gives with the number of a refusal
-    pub both_refusal : (r : TapReading) (n : ℕ) → n ≡ first_of (block_tests t xs (shorter lent)) → (n ≡ 0 → ⊥)
-        → r ≡ record { tap = t; answer = record { number = n; count = 0 } } → outcome r.answer r.tap lent ≡ block_of t xs lent
+    -- what the code gives with a refusal
+    pub both_refused : (r : Refusal) → number_of r ≡ first_of (block_tests t xs (shorter lent)) → outcome (as_answer (Err r)) t lent ≡ block_of t xs lent
     unfolding block_of
-    both_refusal r n e h q =
-        ap (λ (x : TapReading). outcome x.answer x.tap lent) q ∙ is-refused (block_tests t xs (shorter lent)) t lent (read lent) n e h
+    both_refused = answer_refused (block_tests t xs (shorter lent)) t lent (read lent)
 
     -- what it has read: a and b are what the receivers gave
     module _ (k : BothReadable (shorter lent)) {a b : Given} (ha : IsHeard t.first xs a) (hb : IsHeard t.second xs b) where
@@ -261,7 +260,7 @@ module _ (t : Tap) (xs : List ℤ) where
 
       pub both_read : (count : ℕ) (out : List ℕ) (beside : List ℤ) → count ≡ length together
           → out ≡ sets lent.0 0 (numbers_of together) → beside ≡ sets lent.1 0 (differences_of together)
-          → outcome (record { number = 0; count = count }) (record { first = a.state; second = b.state }) (out, beside) ≡ block_of t xs lent
+          → outcome (as_answer (Ok count)) (record { first = a.state; second = b.state }) (out, beside) ≡ block_of t xs lent
       both_read count out beside ec eo eb' =
           (λ i. record { number = 0; count = (ec ∙ ap length together_all) i; state = moved i; lent = (stored i, noted i) })
           ∙ sym (both_0 k)

@@ -1,14 +1,14 @@
 // What one of the tap's receivers gives for a block.
 ghost use Rattle.std.specs.Prelude.{◌≡◌, ◌≤◌, take};
-ghost use Rattle.calls.specs.Outcome.{outcome};
+ghost use Rattle.calls.specs.Outcome.{as_answer, outcome};
 ghost use Rattle.receiver.specs.Calls.{most_events, shortest, indexed_of};
 ghost use Rattle.tap.specs.AsCoded.{AreEvents, listed};
 
 use super::merge::Events;
-use calls::Answer;
+use calls::Answered;
 use receiver::{MOST_EVENTS, Receiver};
 
-// The lists that it fills, as long as any block needs: three, since a receiver fills three.
+// The lists that it fills, as long as any block needs. Three and not one of structs, since `Receiver::block_indexed` fills three lists.
 #[derive(Drop)]
 pub(crate) struct Heard {
     numbers: [u16; MOST_EVENTS],
@@ -28,17 +28,16 @@ impl Heard {
     }
 
     // The receiver reads the samples. The lists are lent to it where they stand, since a copy of them takes longer than a short block.
-    pub(crate) fn read(&mut self, receiver: Receiver, samples: &[i16]) -> (Receiver, Answer)
-        ensures { outcome result.1 result.0 ((self.new.numbers, self.new.differences), self.new.indices)
+    pub(crate) fn read(&mut self, receiver: Receiver, samples: &[i16]) -> Answered<Receiver, usize>
+        ensures { outcome (as_answer result.answer) result.state ((self.new.numbers, self.new.differences), self.new.indices)
             ≡ indexed_of receiver samples.now ((self.old.numbers, self.old.differences), self.old.indices) }
     {
-        let reading = receiver.block_indexed(
+        receiver.block_indexed(
             samples,
             &mut self.numbers,
             &mut self.differences,
             &mut self.indices,
-        );
-        (reading.state, Answer::from(reading.answer))
+        )
     }
 
     // The first events, so many, each of which gets the band.

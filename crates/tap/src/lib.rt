@@ -1,9 +1,9 @@
 // A tap on a line that carries a pair of bands: one receiver of each, fed the same blocks. The events of both go to one list.
 #![tactic(auto)]
 
-ghost use Rattle.std.specs.Prelude.{◌≡◌};
-ghost use Rattle.calls.specs.Refusals.{first_of};
-ghost use Rattle.calls.specs.Outcome.{opened, outcome};
+ghost use Rattle.std.specs.Prelude.{◌≡◌, Ok, IfOk};
+ghost use Rattle.calls.specs.Refusals.{refusal_number, first_of};
+ghost use Rattle.calls.specs.Outcome.{as_answer, opened, outcome};
 ghost use Rattle.receiver.specs.Calls as receiver;
 ghost use Rattle.tap.specs.Calls.{open_of, block_tests, block_of};
 
@@ -11,7 +11,7 @@ mod heard;
 mod merge;
 mod opening;
 
-use calls::{Answer, Answered};
+use calls::{Answered, Refusal};
 use heard::Heard;
 use merge::Merged;
 use receiver::Receiver;
@@ -21,13 +21,6 @@ use receiver::Receiver;
 pub struct Tap {
     pub first: Receiver,
     pub second: Receiver,
-}
-
-// What a block call answers: the next state, and the number with the count of events.
-#[derive(Clone, Copy)]
-pub struct TapReading {
-    pub tap: Tap,
-    pub answer: Answer,
 }
 
 impl Tap {
@@ -45,9 +38,14 @@ impl Tap {
     }
 
     // Reads a block of samples with both receivers, each into lists of its own, and merges their events: the numbers go to `events`, and the
-    // difference of each to its place in `differences`.
-    pub fn block(self, samples: &[i16], events: &mut [u16], differences: &mut [i64]) -> TapReading
-        ensures { outcome result.answer result.tap (events.new, differences.new)
+    // difference of each to its place in `differences`. Answers how many there are. Two lists, as the specification lends them.
+    pub fn block(
+        self,
+        samples: &[i16],
+        events: &mut [u16],
+        differences: &mut [i64],
+    ) -> Answered<Tap, usize>
+        ensures { outcome (as_answer result.answer) result.state (events.new, differences.new)
             ≡ block_of self samples.now (events.old, differences.old) }
     {
         let mut one = Heard::new();
@@ -55,56 +53,54 @@ impl Tap {
         let first = one.read(self.first, samples);
         let second = two.read(self.second, samples);
         let places = events.len().min(differences.len());
-        let number = self.refusal(first.1.number, second.1.number, samples, places);
-        if number != 0 {
-            return refused(self.first, self.second, number);
-        }
-        let merged = Merged {
-            first: one.events(first.1.count, self.first.band),
-            second: two.events(second.1.count, self.second.band),
-        };
-        let count = merged.put(events, differences);
-        TapReading {
-            tap: Tap {
-                first: first.0,
-                second: second.0,
+        match self.counts(first.answer, second.answer, samples, places) {
+            Err(refusal) => Answered {
+                state: self,
+                answer: Err(refusal),
             },
-            answer: Answer { number: 0, count },
+            Ok((m, n)) => {
+                let merged = Merged {
+                    first: one.events(m, self.first.band),
+                    second: two.events(n, self.second.band),
+                };
+                Answered {
+                    state: Tap {
+                        first: first.state,
+                        second: second.state,
+                    },
+                    answer: Ok(merged.put(events, differences)),
+                }
+            }
         }
     }
 
-    // The number of the first reason to refuse a block with so many places lent, or 0, from what each receiver answers where it has as many
-    // places as a block can need.
-    fn refusal(self, one: u8, two: u8, samples: &[i16], places: usize) -> u8
-        requires one_value { one ≡ first_of (receiver.block_tests self.first samples.now receiver.most_events) }
-        requires two_value { two ≡ first_of (receiver.block_tests self.second samples.now receiver.most_events) }
-        ensures { result ≡ first_of (block_tests self samples.now places) }
+    // How many events either receiver gave, or the first reason to refuse a block with so many places lent, from what the receivers answered
+    // where they had as many places as a block can need.
+    #[tactic(auto, using(crate::proofs::Numbers::out_of_range, crate::proofs::Numbers::no_pair), unfolding(crate::specs::Calls::in_range))]
+    fn counts(
+        self,
+        first: Result<usize, Refusal>,
+        second: Result<usize, Refusal>,
+        samples: &[i16],
+        places: usize,
+    ) -> Result<(usize, usize), Refusal>
+        requires first { refusal_number first ≡ first_of (receiver.block_tests self.first samples.now receiver.most_events) }
+        requires second { refusal_number second ≡ first_of (receiver.block_tests self.second samples.now receiver.most_events) }
+        ensures number { refusal_number result ≡ first_of (block_tests self samples.now places) }
+        ensures counts { IfOk result (λ n. (first ≡ Ok n.0) × (second ≡ Ok n.1)) }
     {
-        if one == 2 {
-            return 2;
-        }
-        if two == 2 {
-            return 2;
+        let out_of_range = Err(Refusal::StateOutOfRange);
+        if first == out_of_range || second == out_of_range {
+            return Err(Refusal::StateOutOfRange);
         }
         if !tones::is_pair(self.first.band, self.second.band) {
-            return 2;
+            return Err(Refusal::StateOutOfRange);
         }
-        if one != 0 {
-            return one;
-        }
+        let m = first?;
+        let n = second?;
         if places < 2 * (samples.len() / 48 + 1) {
-            return 4;
+            return Err(Refusal::TooFewPlaces);
         }
-        0
-    }
-}
-
-// The receivers as handed, beside the number of a refusal.
-fn refused(first: Receiver, second: Receiver, number: u8) -> TapReading
-    ensures { result ≡ record { tap = record { first = first; second = second }; answer = record { number = number; count = 0 } } }
-{
-    TapReading {
-        tap: Tap { first, second },
-        answer: Answer { number, count: 0 },
+        Ok((m, n))
     }
 }

@@ -48,11 +48,10 @@ impl<'a> Events<'a> {
     fn comes_first(&self, others: &Events<'a>) -> bool
         ensures { result ≡ comes_first self.now others.now }
     {
-        match (self.indices, others.indices) {
-            ([], _) => false,
-            (_, []) => true,
-            ([first, ..], [other, ..]) => first <= other,
-        }
+        let [first, ..] = self.indices else {
+            return false;
+        };
+        others.indices.first().is_none_or(|other| first <= other)
     }
 
     // Takes the first event, with its band, and its difference.

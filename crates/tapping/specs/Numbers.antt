@@ -2,11 +2,12 @@
 -- "Refused calls".
 -- Assumes nothing.
 use Rattle.std.specs.Prelude.{cond, List, ℕ, eqb, ℤ}
-use Rattle.calls.specs.Outcome.{Opening, Outcome}
+use Rattle.calls.specs.declared.Answer.{Answer}
+use Rattle.calls.specs.declared.Answered.{Answered}
+use Rattle.calls.specs.Outcome.{Opening, Outcome, as_answer}
 use Rattle.receiver.specs.Calls.{EventLists}
 use Rattle.receiving.specs.Numbers.{receiver_of, numbers_of}
 use Rattle.tap.specs.declared.Tap.{Tap}
-use Rattle.tap.specs.declared.TapReading.{TapReading}
 use Rattle.tap.specs.Calls.{block_of}
 use Rattle.tapping.specs.declared.Taps.{Taps}
 use Rattle.tapping.specs.declared.TapOpening.{TapOpening}
@@ -32,9 +33,10 @@ abbrev pub next_numbers : ℕ → Tap → Taps → Taps
 next_numbers number next handed = cond (eqb number 0) (tap_numbers next) handed
 
 -- what is handed back of a reading
-abbrev pub reading_numbers : TapReading → Taps → TapBlock
+abbrev pub reading_numbers : Answered Tap ℕ → Taps → TapBlock
 reading_numbers r handed =
-    record { tap = next_numbers r.answer.number r.tap handed; number = r.answer.number; count = r.answer.count }
+    let a : Answer = as_answer r.answer in
+    record { tap = next_numbers a.number r.state handed; number = a.number; count = a.count }
 
 abbrev pub outcome_numbers : Taps → Outcome Tap EventLists → Outcome Taps EventLists
 outcome_numbers handed o =

@@ -3,13 +3,14 @@
 #![tactic(auto)]
 
 ghost use Rattle.std.specs.Prelude.{◌≡◌};
-ghost use Rattle.calls.specs.Outcome.{answer_of, outcome};
+ghost use Rattle.calls.specs.Outcome.{answer_of, opened, outcome};
 ghost use Rattle.tap.specs.Calls.{open_of};
 ghost use Rattle.tapping.specs.Numbers.{tap_of, tap_numbers, opened_numbers, reading_numbers, block_numbers};
 
+use calls::Answered;
 use receiver::Receiver;
 use receiving::State;
-use tap::{Tap, TapReading};
+use tap::Tap;
 
 // The receivers of bands 1 and 2, or of 3 and 4.
 #[repr(C)]
@@ -19,7 +20,7 @@ pub struct Taps {
     pub second: State,
 }
 
-// What an opening answers: the number, and the fresh tap of the bands, or of 1 and 2 if it is refused.
+// What an opening answers: the number, and the fresh tap of the bands, or of 1 and 2 if it is refused. A number, since C has no `Result`.
 #[repr(C)]
 #[derive(Clone, Copy)]
 pub struct TapOpening {
@@ -27,7 +28,8 @@ pub struct TapOpening {
     pub tap: Taps,
 }
 
-// What a block call answers: the next state, the number, and the count of events.
+// What a block call answers: the next state, the number, and the count of events. Two numbers, since C has no `Result`; a struct beside the
+// receiver's, since one with a type parameter cannot be handed to C.
 #[repr(C)]
 #[derive(Clone, Copy)]
 pub struct TapBlock {
@@ -40,11 +42,7 @@ pub struct TapBlock {
 pub fn modem_tap_open(first: u8, second: u8) -> TapOpening
     ensures { result ≡ opened_numbers (open_of first second) }
 {
-    let opened = Tap::open(first, second);
-    TapOpening {
-        number: opened.answer.err().map_or(0, u8::from),
-        tap: Taps::from(opened.state),
-    }
+    Tap::open(first, second).into()
 }
 
 // Reads a block of samples with both receivers, with the difference of each event beside its number. A refused call gives back the state as it
@@ -59,23 +57,37 @@ pub fn modem_tap_block(
         ≡ block_numbers tap samples.now (events.old, differences.old) }
 {
     let reading = Tap::from(tap).block(samples, events, differences);
-    reading_numbers(reading, tap)
+    TapBlock::new(reading, tap)
 }
 
-// What is handed back of a reading: the next state if the call was accepted, and the state as it was handed if not.
-fn reading_numbers(reading: TapReading, handed: Taps) -> TapBlock
-    ensures { result ≡ reading_numbers reading handed }
-{
-    let answer = reading.answer;
-    let accepted = answer.number == 0;
-    TapBlock {
-        tap: if accepted {
-            Taps::from(reading.tap)
-        } else {
-            handed
-        },
-        number: answer.number,
-        count: answer.count,
+impl From<Answered<Tap, ()>> for TapOpening {
+    ghost from_gives = { λ a n. n ≡ opened_numbers (opened a) };
+
+    fn from(opening: Answered<Tap, ()>) -> TapOpening {
+        TapOpening {
+            number: opening.answer.err().map_or(0, u8::from),
+            tap: opening.state.into(),
+        }
+    }
+}
+
+impl TapBlock {
+    // What a block call on a state hands back: the next state if it was accepted, and the state as it was handed if not.
+    fn new(reading: Answered<Tap, usize>, handed: Taps) -> TapBlock
+        ensures { result ≡ reading_numbers reading handed }
+    {
+        match reading.answer {
+            Ok(count) => TapBlock {
+                tap: reading.state.into(),
+                number: 0,
+                count,
+            },
+            Err(refusal) => TapBlock {
+                tap: handed,
+                number: refusal.into(),
+                count: 0,
+            },
+        }
     }
 }
 
