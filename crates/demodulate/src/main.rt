@@ -10,7 +10,8 @@ fn main(rt: HostRuntime) {
     }
 }
 
-// A function for both programs would take `demodulate` as a closure, and so require that it may be called; public functions require nothing.
+// The programs are written apart. A function for both would take `demodulate` as a closure, and so require that it may be called, where public
+// functions require nothing; a trait for both, with the two sizes, would be longer than these lines.
 fn run(rt: &HostRuntime) -> Result<(), Failure> {
     // What is behind these bytes changes nothing that is printed: `CutInput` of `demodulator`.
     let mut input = [0u8; demodulator::MOST_INPUT];

@@ -49,6 +49,11 @@ length-lines place (event ∷ events) h =
       length-lines (suc place) events (omega arith),
     )
 
+-- the names line is 18 bytes, and the other lines stand behind it
+pub text-length : (events : List ℕ) → length (events_text events) ≡ 18 + length (event_lines 0 events)
+unfolding events_text
+text-length events = length-append names_line (event_lines 0 events)
+
 pub few_digits : (place : ℕ) → place < 1000 → length (decimal place) ≤ 3
 few_digits place = length-decimal 2 place
 
@@ -94,7 +99,7 @@ before_none events = refl
 -- all of them, and so those before a place, have room
 pub text-most : (events : List ℕ) → length events ≤ most_events → length (events_text events) ≤ most_printed
 unfolding events_text
-text-most events few = omega (arith, length-append names_line (event_lines 0 events), length-lines 0 events (omega arith))
+text-most events few = omega (arith, text-length events, length-lines 0 events (omega arith))
 
 pub before-most : (events : List ℕ) (place : ℕ) → length events ≤ most_events → length (text_before events place) ≤ most_printed
 before-most events place few = text-most (take place events) (omega (arith, length-take place events))

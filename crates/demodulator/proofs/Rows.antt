@@ -1,15 +1,17 @@
--- The table of kinds: every event that a receiver reports has its row there, and how long a kind's name is.
+-- The table of kinds: every event that a receiver reports has its row there, what is known of a number that has one, and how long a kind's
+-- name is.
 -- Assumes nothing.
 use mathlib.Core.Path.{◌≡◌, refl}
-use mathlib.Core.Bool.{true}
+use mathlib.Core.Bool.{Bool, true, ◌&&◌, false≢true}
 use mathlib.Core.List.{List, [], ◌∷◌}
+use mathlib.Mathlib.Data.Bool.Basic.{and_elim_left, and_elim_right}
 use Prim.Native.Nat.{ℕ, ◌<◌, ◌≤◌, zero-le}
 use native.Mathlib.Omega.{arith}
-use borrow.Author.Tests.{le-leb}
+use borrow.Author.Tests.{le-leb, leb-true}
 use lib.Dec.{leb}
 use lib.IntN.{ℤ}
 use lib.ListN.{length}
-use Rattle.integers.proofs.Tests.{cond_case}
+use Rattle.integers.proofs.Tests.{cond_case, or_case}
 use Rattle.integers.specs.All.{All, none, more}
 use Rattle.control.specs.Rules.{is_event}
 use Rattle.control.proofs.Events.{event_case}
@@ -17,7 +19,7 @@ use Rattle.receiver.specs.declared.Receiver.{Receiver}
 use Rattle.receiver.specs.Step.{events_after}
 use Rattle.receiver.specs.Calls.{in_range}
 use Rattle.receiver.proofs.Events.{events-known}
-use Rattle.demodulator.specs.Lines.{Kind, kinds, is_of, has_kind, HaveKinds, name_in, kind_of}
+use Rattle.demodulator.specs.Lines.{Kind, kinds, is_of, has_row, has_kind, HaveKinds, name_in, kind_of}
 
 -- ---- events have rows
 
@@ -36,6 +38,25 @@ event_rows (more {x = n} h hs) = more (event_row n h) (event_rows hs)
 -- every number that a receiver in its ranges reports has a kind
 pub reported-kinds : (s : Receiver) (xs : List ℤ) → in_range s ≡ true → HaveKinds (events_after s xs)
 reported-kinds s xs h = event_rows (events-known s xs h)
+
+-- ---- numbers that have rows
+
+-- what holds of the numbers of every row holds of a number that has one
+has_row_lem : {P : Type 0} (ks : List Kind) (n : ℕ) → All (λ k. k.first ≤ n → n ≤ k.last → P) ks → has_row ks n ≡ true → P
+has_row_lem [] n none h = absurd (false≢true h)
+has_row_lem (k ∷ ks) n (more p ps) h =
+    let low : Bool = leb k.first n in
+    let high : Bool = leb n k.last in
+    or_case (low && high) (has_row ks n)
+    (λ r. p (leb-true k.first n (and_elim_left low high r)) (leb-true n k.last (and_elim_right low high r)))
+    (has_row_lem ks n ps) h
+
+-- above 258 one number has a row
+pub last_row : (n : ℕ) → 258 < n → has_kind n ≡ true → n ≡ 259
+last_row n l =
+    has_row_lem kinds n
+    (more (λ low high. omega arith)
+    (more (λ low high. omega arith) (more (λ low high. omega arith) (more (λ low high. omega arith) (more (λ low high. omega arith) none)))))
 
 -- ---- how long a name is
 

@@ -11,7 +11,7 @@ use crate::MOST_PRINTED;
 use crate::lines::put_events;
 use receiver::Receiver;
 
-// The lines of the samples' events over the buffer's front, and their length.
+// The lines of the samples' events over the buffer's front, and their length. Two lists are lent, since `Receiver::block` fills two.
 pub(crate) fn put_events_of(band: u8, samples: &[i16], out: &mut [u8; MOST_PRINTED]) -> usize
     requires band { is_band band ≡ true }
     requires few { length samples.now ≤ most_samples }

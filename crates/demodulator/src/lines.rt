@@ -10,7 +10,8 @@ use crate::MOST_PRINTED;
 use arrayvec::ArrayVec;
 use control::Event;
 
-// The names line and a line for each event over the buffer's front, and their length. The events are the numbers that a receiver lists for C.
+// The names line and a line for each event over the buffer's front, and their length. The events are numbers, since
+// `Receiver::block` lists them so. The place is counted by hand, since the lines differ in length.
 #[tactic(auto, using(crate::proofs::Printed::by_lines))]
 pub(crate) fn put_events(out: &mut [u8; MOST_PRINTED], events: &[u16]) -> usize
     requires few { length events.now ≤ most_events }
@@ -66,6 +67,6 @@ fn value_of(event: Event) -> [u8; 2]
 {
     match event {
         Event::Character(byte) => digits::hexadecimal(byte),
-        _ => [b'-', b'-'],
+        _ => *b"--",
     }
 }

@@ -20,7 +20,7 @@ pub const DISTURBANCE: i16 = 100;
 
 // Sends leader, characters and trailer in a band, adds the numbers of `disturbance` sample by sample, and reads the result in
 // blocks of `size` through the receiver's second entry. The samples as they were read, the events and their differences go to the caller's
-// buffers. It gives the count of events.
+// buffers: lists apart, as the specification lends them. It gives the count of events.
 #[tactic(auto, using(crate::proofs::Refusals::loopback_refused))]
 pub fn loopback(
     band: u8,
@@ -49,7 +49,7 @@ pub fn loopback(
     Ok(receive::receive(band, &samples[..end], size, events, differences))
 }
 
-// The first reason to refuse.
+// The first reason to refuse. Of the buffers it takes the lengths, one by one, as `loopback_tests` does.
 fn check(
     band: u8,
     characters: usize,
@@ -81,7 +81,7 @@ fn is_size(characters: usize, size: usize) -> bool
     characters <= MOST_CHARACTERS && (1..=MOST_SAMPLES).contains(&size)
 }
 
-// A number for each sample, and a place for each sample, each event and each difference.
+// A number for each sample, and a place for each sample, each event and each difference: numbers, as `is_room` of the definitions takes them.
 fn is_room(
     characters: usize,
     disturbance: usize,

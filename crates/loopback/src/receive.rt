@@ -11,7 +11,7 @@ use calls::put;
 use receiver::{MOST_EVENTS, Receiver};
 
 // Reads samples from the fresh receiver of a band. The events and their differences go to the fronts of the two lists, and their count is
-// given.
+// given. Two lists here and below, since the receiver fills two.
 pub(crate) fn receive(
     band: u8,
     samples: &[i16],

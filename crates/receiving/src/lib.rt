@@ -119,7 +119,7 @@ impl Block {
 }
 
 // The state of its numbers. A stage number above 2 gives no stage in its ranges, and a `measured` above 1 a negative difference, so that a call
-// refuses either.
+// refuses either: every number has a state by `receiver_of`, so this is no `TryFrom`.
 impl From<State> for Receiver {
     ghost from_gives = { λ n s. s ≡ receiver_of n };
 

@@ -8,7 +8,7 @@ ghost use Rattle.transmitter.specs.Calls.{open_of, idle_of, characters_of};
 use calls::{Answer, Answered};
 use transmitter::Transmitter;
 
-// What an opening answers: 0 and the fresh state, or the number of a refusal and the fresh state of band 1.
+// What an opening answers: 0 and the fresh state, or the number of a refusal and the fresh state of band 1. A number, since C has no `Result`.
 #[repr(C)]
 #[derive(Clone, Copy)]
 pub struct Opened {
@@ -27,7 +27,7 @@ impl From<Answered<Transmitter, ()>> for Opened {
     }
 }
 
-// What a sending call answers: the next state, and number and count of samples as fields of their own.
+// What a sending call answers: the next state, and number and count of samples as fields of their own. Two numbers, since C has no `Result`.
 #[repr(C)]
 #[derive(Clone, Copy)]
 pub struct Sending {

@@ -33,7 +33,8 @@ pub(crate) fn check(band: u8, samples: &[i16], room: usize) -> Result<(), Refusa
     Ok(())
 }
 
-// A line for each sample, behind the three above them. Gives the length of the whole sheet.
+// A line for each sample, behind the three above them. Gives the length of the whole sheet. The place is counted by hand, since the lines
+// differ in length.
 #[tactic(auto, using(crate::proofs::Writing::lines))]
 pub(crate) fn put_lines(out: &mut [u8], samples: &[i16]) -> usize
     requires { 14 + length (lines_of samples.now) ≤ most_bytes }

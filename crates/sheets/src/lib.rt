@@ -8,7 +8,7 @@ ghost use Rattle.sheet.specs.Calls.{read_of, write_of};
 
 use calls::{Answer, Refusal};
 
-// What a reading answers: the number, the band, 0 for a refusal, and the count of samples. C programs get it as it is.
+// What a reading answers: the number, the band, 0 for a refusal, and the count of samples. Numbers, since C has no `Result`.
 #[repr(C)]
 #[derive(Clone, Copy)]
 pub struct Sheet {

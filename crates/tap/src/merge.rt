@@ -8,7 +8,7 @@ ghost use Rattle.tap.specs.AsCoded.{AreEvents, listed, comes_first, IsTaken, mer
 use std::marker::Model;
 
 // What a receiver gave for a block, and the band that each of its events gets: the numbers of the events, and place by place their differences
-// and the indices of their samples. A clause sees the events, each with its band, its difference and its index.
+// and the indices of their samples. Three lists, since `Receiver::block_indexed` fills three. A clause sees the events, each with its band, its difference and its index.
 #[derive(Drop)]
 pub(crate) struct Events<'a> {
     band: u8,
@@ -103,7 +103,8 @@ impl<'a> Iterator for Merged<'a> {
 }
 
 impl<'a> Merged<'a> {
-    // Puts the events down, and the difference of each at the same place. Gives their count.
+    // Puts the events down, and the difference of each at the same place of the second list: two lists, as the specification lends them. The
+    // places are counted by hand, since their count is given.
     pub(crate) fn put(self, events: &mut [u16], differences: &mut [i64]) -> usize
         requires events_room { length self ≤ length events.old }
         requires differences_room { length self ≤ length differences.old }

@@ -1,4 +1,5 @@
-// The exports of `tapping`: each calls the function of its name, and states its contract again.
+// The exports of `tapping`: each calls the function of its name, and states its contract again. They are a crate of their own,
+// since one that exports is no library for other crates.
 #![tactic(auto)]
 
 ghost use Rattle.std.specs.Prelude.{◌≡◌};
