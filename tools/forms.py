@@ -3,8 +3,7 @@
 
 usage: python3 tools/forms.py [-v] [COMMIT]     at the top; -v lists the places; COMMIT counts there and not in the files
 
-It reads the text alone, so a place that it finds is one to look at. What a line says of itself, `kept: ..` in the comment above the place,
-is not counted apart: the page has what is kept.
+It reads the text alone, so a place that it finds is one to look at. docs/DESIGN-PASS.md says which of them are kept, and why.
 """
 import collections
 import glob
