@@ -1,15 +1,16 @@
 -- What a band's number says, the rows of the table, and the pairs of bands.
 -- Assumes nothing.
-use mathlib.Core.Path.{◌≡◌, refl}
+use mathlib.Core.Path.{◌≡◌, refl, ap}
 use mathlib.Core.Bool.{true, false, ◌&&◌, and-false}
-use mathlib.Mathlib.Data.Bool.Basic.{and_elim_left, and_elim_right}
+use mathlib.Mathlib.Data.Bool.Basic.{and_elim_left, and_elim_right, and_intro}
 use Prim.Native.Nat.{ℕ, zero, suc, ◌-◌, ◌<◌, ◌≤◌}
 use native.Mathlib.Omega.{arith}
-use borrow.Author.Tests.{leb-true, lt-leb, eqb-true}
+use borrow.Author.Tests.{leb-true, le-leb, lt-leb, eqb-true}
 use lib.Dec.{leb, eqb, lit≤}
 use lib.ListN.{length, get_or}
-use Rattle.std.specs.Prelude.{is_some, unwrap_or}
-use Rattle.integers.proofs.Tests.{or_case}
+use Rattle.std.specs.Prelude.{Some, None, is_some, unwrap_or}
+use Rattle.std.proofs.lemmas.Option.{slice_get-get_or, slice_get_past}
+use Rattle.integers.proofs.Tests.{or_case, lt_or_le}
 use Rattle.tones.specs.Bands.{originate, bands, row, is_band, is_pair, tones_of}
 
 pub record Band (b : ℕ) : Type 0 where
@@ -40,24 +41,36 @@ pub tones_else : (b : ℕ) → is_band b ≡ false → tones_of b ≡ originate
 unfolding tones_of
 tones_else b h = rw h
 
--- the row of a number tells if it is a band, and its tones
+-- the row of a number tells if it is a band, and its tones, however many rows there are
+row_at : (n : ℕ) → n < length bands → row (suc n) ≡ Some (get_or bands n originate)
+unfolding row
+row_at n h = slice_get-get_or bands n originate h
+
+row_past : (n : ℕ) → length bands ≤ n → row (suc n) ≡ None
+unfolding row
+row_past n h = slice_get_past bands n h
+
+band_at : (n : ℕ) → n < length bands → is_band (suc n) ≡ true
+unfolding is_band
+band_at n h = and_intro (le-leb 1 (suc n) (omega arith)) (le-leb (suc n) (length bands) h)
+
+band_past : (n : ℕ) → length bands ≤ n → is_band (suc n) ≡ false
+unfolding is_band
+band_past n h = rw (lt-leb (suc n) (length bands) (omega (arith, h))) (and-false (leb 1 (suc n)))
+
 pub row_known : (b : ℕ) → is_band b ≡ is_some (row b)
-unfolding row is_band bands
+unfolding row is_band
 row_known zero = refl
-row_known (suc zero) = refl
-row_known (suc (suc zero)) = refl
-row_known (suc (suc (suc zero))) = refl
-row_known (suc (suc (suc (suc zero)))) = refl
-row_known (suc (suc (suc (suc (suc n))))) = rw (lt-leb (suc (suc (suc (suc (suc n))))) 4 (omega arith)) (and-false (leb 1 (suc (suc (suc (suc (suc n)))))))
+row_known (suc n) = lt_or_le n (length bands) (λ l. rw (band_at n l, row_at n l) refl) (λ l. rw (band_past n l, row_past n l) refl)
 
 pub row_tones : (b : ℕ) → tones_of b ≡ unwrap_or (row b) originate
-unfolding row tones_of is_band bands
-row_tones zero = refl
-row_tones (suc zero) = refl
-row_tones (suc (suc zero)) = refl
-row_tones (suc (suc (suc zero))) = refl
-row_tones (suc (suc (suc (suc zero)))) = refl
-row_tones (suc (suc (suc (suc (suc n))))) = tones_else (suc (suc (suc (suc (suc n))))) (row_known (suc (suc (suc (suc (suc n))))))
+unfolding row is_band
+row_tones zero = tones_else zero refl
+row_tones (suc n) =
+    let same : suc n - 1 ≡ n = omega arith in
+    lt_or_le n (length bands)
+    (λ l. rw (tones_band (suc n) (band_at n l), row_at n l) (ap (λ i. get_or bands i originate) same))
+    (λ l. rw (tones_else (suc n) (band_past n l), row_past n l) refl)
 
 -- the first rows by number
 pub rows : (tones_of 1 ≡ originate) × (tones_of 2 ≡ record { space = 405; mark = 445 })
