@@ -7,7 +7,7 @@ use native.Mathlib.Numerals.{add-one}
 use lib.ListN.{length, get_or, drop, set, length-set, length-map, drop_of_length-le}
 use lib.Seq.{sets, length-sets, drop-cons}
 use Rattle.std.proofs.lemmas.List.{get_or-map}
-use Rattle.integers.proofs.Lists.{sets_append, sets-front}
+use Rattle.integers.proofs.Lists.{sets_append, sets-front, sets_out}
 
 -- `lent` is to get the list `all` from the place `from` on; it is `now`, and `rest` is still to come from the place `at` on
 pub record Filling {A : Type 0} (lent : List A) (from : ℕ) (all now : List A) (at : ℕ) (rest : List A) : Type 0 where
@@ -32,6 +32,10 @@ module _ {A : Type 0} where
     pub filling_next : (xs : List A) (i : ℕ) (d x : A) → i < length xs → x ≡ get_or xs i d → Filling lent from all now at (drop i xs)
         → Filling lent from all (set now at x) (at + 1) (drop (i + 1) xs)
     filling_next xs i d x h e f = rw (e, add-one i) (filling_one (get_or xs i d) (drop (suc i) xs) (rw (drop-cons xs i d) at f))
+
+    -- there is no place any more, and what is still to come is not stored
+    pub filling_skip : (rest less : List A) → length now ≤ at → Filling lent from all now at rest → Filling lent from all now at less
+    filling_skip rest less h f = record { long = f.long; whole = sets_out now at less h ∙ sym (sets_out now at rest h) ∙ f.whole }
 
     -- nothing is left
     pub filling_end : Filling lent from all now at [] → now ≡ sets lent from all

@@ -46,7 +46,7 @@ module _ {S L : Type 0} where
   abbrev pub refused : ℕ → S → L → Outcome S L
   refused n s lent = record { number = n; count = 0; state = s; lent = lent }
 
-  -- what the code as_answer, the state that it gave and what it left in the lent memory, as an outcome
+  -- what the code answered, the state that it gave and what it left in the lent memory, as an outcome
   abbrev pub outcome : Answer → S → L → Outcome S L
   outcome a s lent = record { number = a.number; count = a.count; state = s; lent = lent }
 

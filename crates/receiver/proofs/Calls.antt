@@ -1,12 +1,13 @@
 -- What is known if a block call is not refused, that it is accepted then, and what the code gives when it refuses.
 -- Assumes nothing.
 use Rattle.std.proofs.Common.{rules}
-use mathlib.Core.Path.{◌≡◌, refl, sym, ap, ◌∙◌}
+use mathlib.Core.Path.{◌≡◌, refl, sym, ap, ap₂, ◌∙◌}
 use mathlib.Core.Bool.{Bool, true, cond}
 use mathlib.Core.List.{List, map, map-map}
 use Prim.Native.Nat.{ℕ, zero, suc, ◌+◌, ◌≤◌}
 use native.Mathlib.Nat.{zero-add}
 use native.Mathlib.Omega.{arith}
+use borrow.Author.Tests.{ne_eqb}
 use lib.Dec.{eqb, eqb-suc-zero}
 use lib.IntN.{ℤ}
 use lib.ListN.{length, length-map}
@@ -15,8 +16,9 @@ use Rattle.std.specs.Prelude.{Ok}
 use Rattle.integers.proofs.Lists.{sets-front}
 use Rattle.calls.specs.Refusals.{first_of}
 use Rattle.calls.specs.declared.Answer.{Answer}
-use Rattle.calls.specs.Outcome.{Outcome, outcome, as_answer, refused, over, accepted_in, one_list, both_in, accepted}
-use Rattle.calls.proofs.Refusals.{refused_or, answer_given}
+use Rattle.calls.specs.declared.Answered.{Answered}
+use Rattle.calls.specs.Outcome.{Outcome, answer_of, outcome, as_answer, refused, over, accepted_in, one_list, both_in, accepted}
+use Rattle.calls.proofs.Refusals.{is-refused, refused_or, answer_given}
 use Rattle.calls.proofs.Indexed.{values, indices, indexed_values}
 use Rattle.calls.proofs.Lists.{Keeps, one_keeps, both_keep}
 use Rattle.tones.specs.Samples.{most_samples, are_samples}
@@ -96,6 +98,40 @@ module _ (s : Receiver) (xs : List ℤ) where
 
   -- ---- what the code gives, with so many places of the lists
 
+  -- a refusal, with the number of the first test that holds
+  module _ (places : ℕ) (lent : EventLists) (ix : List ℕ) where
+    pub refused_in : (r : Answered Receiver ℕ) (n : ℕ) → n ≡ first_of (block_tests s xs places) → (n ≡ 0 → ⊥) → r.state ≡ s → as_answer r.answer ≡ answer_of n 0
+        → (outcome (as_answer r.answer) r.state lent ≡ block_in s xs places lent) × (ix ≡ indices_in s xs places ix)
+    refused_in r n e h es ea = (
+      ap₂ (λ (a : Answer) (u : Receiver). outcome a u lent) ea es ∙ is-refused (block_tests s xs places) s lent (read lent) n e h,
+      rw (← e, ne_eqb n 0 h) refl,
+    )
+
+  -- the events put to the front of lists that have room for them
+  module _ (old new : Lists) (empty : old.count ≡ 0) (p : Put old new (indexed_after s xs)) (m : length (measured_after s xs) ≤ length old.events.now)
+      (n : length (measured_after s xs) ≤ length old.differences.now) where
+    -- one of the lists, from its side of the events
+    stored : {A : Type 0} (f : ℕ × ℤ → A) (given left : List A) → length (measured_after s xs) ≤ length given
+        → left ≡ sets given old.count (map (λ (e : (ℕ × ℤ) × ℕ). f e.0) (indexed_after s xs)) → left ≡ over (map f (measured_after s xs)) given
+    stored f given left h e =
+        e
+        ∙ ap (λ (n : ℕ). sets given n (map (λ (e : (ℕ × ℤ) × ℕ). f e.0) (indexed_after s xs))) empty
+        ∙ ap (sets given 0) (sym (map-map f (λ (e : (ℕ × ℤ) × ℕ). e.0) (indexed_after s xs)) ∙ ap (map f) told_values)
+        ∙ sets-front (map f (measured_after s xs)) given (omega (arith, length-map (measured_after s xs) f, h))
+
+    pub put_read : outcome (as_answer (Ok new.count)) (state_after s xs) (new.events.now, new.differences.now)
+        ≡ read (old.events.now, old.differences.now)
+    put_read i =
+        record {
+          number = 0;
+          count = (p.count ∙ ap (λ (n : ℕ). n + length (indexed_after s xs)) empty ∙ zero-add _ ∙ told-count) i;
+          state = state_after s xs;
+          lent = (
+            stored (λ (e : ℕ × ℤ). e.0) old.events.now new.events.now m p.events i,
+            stored (λ (e : ℕ × ℤ). e.1) old.differences.now new.differences.now n p.differences i,
+          );
+        }
+
   module _ (places : ℕ) (old new : Lists) (empty : old.count ≡ 0) where
     abbrev lent : EventLists
     lent = (old.events.now, old.differences.now)
@@ -109,28 +145,10 @@ module _ (s : Receiver) (xs : List ℤ) where
       few : length (measured_after s xs) ≤ places
       few = omega (arith, measured-few s xs k.ranged, k.room)
 
-      -- one of the lists, from its side of the events
-      stored : {A : Type 0} (f : ℕ × ℤ → A) (given left : List A) → places ≤ length given
-          → left ≡ sets given old.count (map (λ (e : (ℕ × ℤ) × ℕ). f e.0) (indexed_after s xs)) → left ≡ over (map f (measured_after s xs)) given
-      stored f given left h e =
-          e
-          ∙ ap (λ (n : ℕ). sets given n (map (λ (e : (ℕ × ℤ) × ℕ). f e.0) (indexed_after s xs))) empty
-          ∙ ap (sets given 0) (sym (map-map f (λ (e : (ℕ × ℤ) × ℕ). e.0) (indexed_after s xs)) ∙ ap (map f) told_values)
-          ∙ sets-front (map f (measured_after s xs)) given (omega (arith, length-map (measured_after s xs) f, few))
-
       pub read_in : outcome (as_answer (Ok new.count)) (state_after s xs) (new.events.now, new.differences.now) ≡ block_in s xs places lent
       read_in =
           answer_given (block_tests s xs places) s lent (read lent) z new.count (state_after s xs) (new.events.now, new.differences.now)
-          (λ i.
-          record {
-            number = 0;
-            count = (p.count ∙ ap (λ (n : ℕ). n + length (indexed_after s xs)) empty ∙ zero-add _ ∙ told-count) i;
-            state = state_after s xs;
-            lent = (
-              stored (λ (e : ℕ × ℤ). e.0) old.events.now new.events.now m p.events i,
-              stored (λ (e : ℕ × ℤ). e.1) old.differences.now new.differences.now n p.differences i,
-            );
-          })
+          (put_read old new empty p (omega (arith, few, m)) (omega (arith, few, n)))
 
       pub told_in : new.indices.now ≡ indices_in s xs places old.indices.now
       told_in = rw (← z) (rw empty at p.indices)

@@ -1,6 +1,7 @@
--- The numbers of a state stand for that state, and a stage out of its range is refused.
+-- The numbers of a state stand for that state, and a stage out of its range is refused. And what a block call on numbers gives, from what
+-- an entry of the receiver gives.
 -- Assumes nothing.
-use mathlib.Core.Path.{◌≡◌, refl}
+use mathlib.Core.Path.{◌≡◌, refl, ap, ◌∙◌}
 use mathlib.Core.Bool.{false, and-false}
 use mathlib.Core.List.{List}
 use Prim.Native.Nat.{ℕ, ◌≤◌}
@@ -9,7 +10,8 @@ use borrow.Author.Tests.{ne_eqb}
 use lib.Dec.{eqb}
 use lib.IntN.{ℤ}
 use Rattle.std.specs.Prelude.{Option, Some, None}
-use Rattle.calls.specs.Outcome.{refused}
+use Rattle.calls.specs.declared.Answered.{Answered}
+use Rattle.calls.specs.Outcome.{Outcome, answer_of, as_answer, outcome, refused}
 use Rattle.control.specs.declared.Stage.{Stage}
 use Rattle.control.specs.declared.Stage.TheVariants.{Searching, Waiting, Held}
 use Rattle.control.specs.Ranges.{is_stage, is_control}
@@ -17,7 +19,8 @@ use Rattle.quality.specs.Quality.{is_kept}
 use Rattle.receiver.specs.declared.Receiver.{Receiver}
 use Rattle.receiver.specs.Calls.{in_range, EventLists, block_of}
 use Rattle.receiving.specs.declared.State.{State}
-use Rattle.receiving.specs.Numbers.{stage_numbers, stage_of, difference_numbers, difference_of, numbers_of, receiver_of, block_numbers}
+use Rattle.receiving.specs.declared.Block.{Block}
+use Rattle.receiving.specs.Numbers.{stage_numbers, stage_of, difference_numbers, difference_of, numbers_of, receiver_of, reading_numbers, outcome_numbers, block_numbers}
 
 -- what one call gives, the next one takes for the same state
 stage-stored : (s : Stage) → (let n = stage_numbers s in stage_of n.0 n.1 n.2 n.3) ≡ s
@@ -52,3 +55,10 @@ unfolding block_of in_range is_kept
 difference_refused n xs lent h =
     let other : (k : ℕ) → k ≤ 1 → eqb n.measured k ≡ false = λ k l. ne_eqb n.measured k (λ e. omega arith) in
     simp (other 0 (omega arith), other 1 (omega arith), and-false)
+
+-- An entry is called with the state of the numbers n and gives r; what is handed back of r is the call on n.
+module _ {L : Type 0} (n : State) (call : Receiver → Outcome Receiver L) (r : Answered Receiver ℕ) {s : Receiver} {now : L} {b : Block} where
+  pub stored : s ≡ receiver_of n → outcome (as_answer r.answer) r.state now ≡ call s → b ≡ reading_numbers r n
+      → outcome (answer_of b.number b.count) b.receiver now ≡ outcome_numbers n (call (receiver_of n))
+  stored made read kept =
+      ap (λ (k : Block). outcome (answer_of k.number k.count) k.receiver now) kept ∙ ap (outcome_numbers n) (read ∙ ap call made)

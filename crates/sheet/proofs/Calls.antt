@@ -5,6 +5,7 @@ use mathlib.Core.Bool.{Bool, true, false}
 use mathlib.Core.List.{List}
 use Prim.Native.Nat.{ℕ, ◌<◌, ◌≤◌}
 use borrow.Author.Tests.{lt-ltb, le-ltb, ltb-false, not-false}
+use lib.Dec.{ltb}
 use lib.IntN.{ℤ}
 use lib.ListN.{length}
 use Rattle.integers.specs.All.{none, more}
@@ -20,10 +21,25 @@ use Rattle.sheet.specs.Calls.{most_bytes, samples_tests, read_tests, read_of, wr
 
 -- ---- reading
 
--- a sheet that none refuses
-pub samples_0 : (band count : ℕ) (sound : Bool) (room : ℕ) → is_band band ≡ true → count ≤ most_samples → sound ≡ true → count ≤ room
-    → 0 ≡ first_of (samples_tests band count sound room)
-samples_0 band count sound room known few good h = rw (known, le-ltb most_samples count few, good, le-ltb room count h)
+-- the cases of a sheet
+module _ (band count : ℕ) (sound : Bool) (room : ℕ) where
+  pub samples_1 : is_band band ≡ false → 1 ≡ first_of (samples_tests band count sound room)
+  samples_1 h = rw h
+
+  module _ (known : is_band band ≡ true) where
+    pub samples_3 : most_samples < count → 3 ≡ first_of (samples_tests band count sound room)
+    samples_3 h = rw (known, lt-ltb most_samples count h)
+
+    module _ (few : count ≤ most_samples) where
+      pub samples_5 : sound ≡ false → 5 ≡ first_of (samples_tests band count sound room)
+      samples_5 h = rw (known, le-ltb most_samples count few, h)
+
+      module _ (good : sound ≡ true) where
+        pub samples_4 : room < count → 4 ≡ first_of (samples_tests band count sound room)
+        samples_4 h = rw (known, le-ltb most_samples count few, good, lt-ltb room count h)
+
+        pub samples_0 : count ≤ room → 0 ≡ first_of (samples_tests band count sound room)
+        samples_0 h = rw (known, le-ltb most_samples count few, good, le-ltb room count h)
 
 -- the cases of any text
 module _ (text : List ℕ) (room : ℕ) where
@@ -70,6 +86,32 @@ read_answer text lent = answered (band_in text) (samples_of text) lent (read_tes
 -- ---- writing
 
 module _ (band : ℕ) (samples : List ℤ) (room : ℕ) where
+  pub write_1 : is_band band ≡ false → 1 ≡ first_of (write_tests band samples room)
+  write_1 h = rw h
+
+  module _ (known : is_band band ≡ true) where
+    pub write_3 : most_samples < length samples → 3 ≡ first_of (write_tests band samples room)
+    write_3 h = rw (known, lt-ltb most_samples (length samples) h)
+
+    module _ (few : length samples ≤ most_samples) where
+      fewer : ltb most_samples (length samples) ≡ false
+      fewer = le-ltb most_samples (length samples) few
+
+      pub write_5 : are_samples samples ≡ false → 5 ≡ first_of (write_tests band samples room)
+      write_5 h = rw (known, fewer, h)
+
+      -- the sheet's length, in the form in which it was computed
+      module _ (sound : are_samples samples ≡ true) (n : ℕ) (e : length (sheet_of band samples) ≡ n) where
+        pub write_6 : most_bytes < n → 6 ≡ first_of (write_tests band samples room)
+        write_6 h = rw (known, fewer, sound, e, lt-ltb most_bytes n h)
+
+        module _ (short : n ≤ most_bytes) where
+          pub write_4 : room < n → 4 ≡ first_of (write_tests band samples room)
+          write_4 h = rw (known, fewer, sound, e, le-ltb most_bytes n short, lt-ltb room n h)
+
+          pub write_0 : n ≤ room → 0 ≡ first_of (write_tests band samples room)
+          write_0 h = rw (known, fewer, sound, e, le-ltb most_bytes n short, le-ltb room n h)
+
   -- what holds when samples are accepted
   pub record Writable : Type 0 where
     pub known : is_band band ≡ true

@@ -1,5 +1,5 @@
--- Laws of the fold: the sign in either half of the cycle, that every place is in the first quarter, and S as the sine at the place times the
--- sign.
+-- Laws of the fold: phases that are equal modulo 1,920 have the same place and sign, the sign in either half of the cycle, that every place is
+-- in the first quarter, and S as the sine at the place times the sign.
 -- Assumes nothing.
 use mathlib.Core.Path.{◌≡◌, ◌∙◌, sym}
 use mathlib.Core.List.{List, [], ◌∷◌, map}
@@ -17,6 +17,14 @@ use Rattle.integers.proofs.Tests.{lt_or_le, cond_case}
 use Rattle.sine.specs.Sine.{S}
 use Rattle.sine.specs.Fold.{place_of, sign_of, InQuarter}
 use Rattle.sine.proofs.Laws.{S-first-half, S-second-half}
+
+pub place_same : (p q : ℕ) → p % 1920 ≡ q % 1920 → place_of p ≡ place_of q
+unfolding place_of
+place_same p q e = let f : p % 960 ≡ q % 960 = omega arith in rw f
+
+pub sign_same : (p q : ℕ) → p % 1920 ≡ q % 1920 → sign_of p ≡ sign_of q
+unfolding sign_of
+sign_same p q e = rw e
 
 sign_first : (p : ℕ) → p % 1920 < 960 → sign_of p ≡ pos 1
 unfolding sign_of
