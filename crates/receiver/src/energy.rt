@@ -27,10 +27,12 @@ impl From<Tones> for Bank {
 
     ghost from_gives = { λ tones bank. decision_by bank ≡ decision_of tones };
 
+    #[tactic(auto, using(crate::proofs::Energies::band_small))]
     fn from(tones: Tones) -> Bank {
+        let weights = sine::weights(tones.space, tones.mark);
         Bank {
-            space: Tone::of(tones.space),
-            mark: Tone::of(tones.mark),
+            space: Tone::of(&weights, 0),
+            mark: Tone::of(&weights, 64),
         }
     }
 }
@@ -50,18 +52,20 @@ impl Bank {
 }
 
 impl Tone {
-    ghost use Rattle.sine.specs.Wave.{wave};
+    ghost use Rattle.std.specs.Prelude.{◌+◌, take, drop};
     ghost use Rattle.receiver.specs.Weighed.{energy_by};
 
-    // A cosine is the sine a quarter of a cycle ahead.
-    #[tactic(auto, using(crate::proofs::Energies::sines_small))]
-    fn of(step: u16) -> Tone
-        ensures cos { result.cos ≡ wave 32 step 480 }
-        ensures sin { result.sin ≡ wave 32 step 0 }
+    // The weights of a tone, which begin at a place of those of a band: its cosines, and behind them its sines.
+    #[tactic(auto, using(crate::proofs::Energies::parts_small))]
+    fn of(weights: &[i16; 128], at: usize) -> Tone
+        requires small { Bounded 6000 weights.now }
+        requires room { at ≤ 64 }
+        ensures cos { result.cos ≡ take 32 (drop at weights.now) }
+        ensures sin { result.sin ≡ take 32 (drop (at + 32) weights.now) }
     {
         Tone {
-            cos: sine::tone(step, 480),
-            sin: sine::tone(step, 0),
+            cos: *weights[at..at + 32].as_array().unwrap(),
+            sin: *weights[at + 32..at + 64].as_array().unwrap(),
         }
     }
 
