@@ -70,6 +70,22 @@ length-decimal (suc k) n h =
     let e = length-decimal k (n / 10) (omega (arith, pow-succ' 10 (suc k))) in
     lt_or_le n 10 (λ l. omega (arith, length-small n l)) (λ l. omega (arith, length_more n l))
 
+-- and one from 10, 100, 1000 or 10000 on has just as many as that
+pub length_two : (n : ℕ) → 10 ≤ n → n < 100 → length (decimal n) ≡ 2
+length_two n low high = omega (arith, length_more n low, length-small (n / 10) (omega arith))
+
+pub length_three : (n : ℕ) → 100 ≤ n → n < 1000 → length (decimal n) ≡ 3
+length_three n low high = omega (arith, length_more n (omega arith), length_two (n / 10) (omega arith) (omega arith))
+
+pub length_four : (n : ℕ) → 1000 ≤ n → n < 10000 → length (decimal n) ≡ 4
+length_four n low high = omega (arith, length_more n (omega arith), length_three (n / 10) (omega arith) (omega arith))
+
+pub length_five : (n : ℕ) → 10000 ≤ n → n < 100000 → length (decimal n) ≡ 5
+length_five n low high = omega (arith, length_more n (omega arith), length_four (n / 10) (omega arith) (omega arith))
+
+-- for the search of the check
+pub ruleset counts = (length-small, length_two, length_three, length_four, length_five)
+
 -- a number of 16 bits
 pub five_digits : (n : ℕ) → n < 65536 → length (decimal n) ≤ 5
 five_digits n h = length-decimal 4 n (omega arith)

@@ -1,7 +1,7 @@
 // Numbers as digits, in decimal and in hexadecimal.
 #![tactic(auto)]
 
-ghost use Rattle.std.specs.Prelude.{◌≡◌, nat_abs, ◌<◌};
+ghost use Rattle.std.specs.Prelude.{◌≡◌, nat_abs, ◌<◌, length};
 ghost use Rattle.digits.specs.Numbers.{is_digit, decimal, hex_digit, hexadecimal};
 
 use arrayvec::ArrayVec;
@@ -26,6 +26,20 @@ pub fn decimal(n: u16) -> ArrayVec<u8, 5>
 {
     let mut buffer = itoa::Buffer::new();
     ArrayVec::try_from(buffer.format(n).as_bytes()).unwrap()
+}
+
+// How many decimal digits a number has.
+#[tactic(auto, using(crate::proofs::Numbers::counts))]
+pub fn count(n: u16) -> usize
+    ensures { result ≡ length (decimal n) }
+{
+    match n {
+        0..=9 => 1,
+        10..=99 => 2,
+        100..=999 => 3,
+        1000..=9999 => 4,
+        10000.. => 5,
+    }
 }
 
 // The two hexadecimal digits of a byte, in lower case.

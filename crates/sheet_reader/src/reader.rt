@@ -17,11 +17,10 @@ pub(crate) fn split(text: &[u8]) -> Option<(u8, &[u8])>
     ensures { MatchOption result (is_headed text.now ≡ false) (λ p. IsHead text.now p.0 p.1.now) }
 {
     let digit = *text.get(5)?;
-    let lines = text.strip_prefix(&sheet::head_of(digit))?;
-    if !digit.is_ascii_digit() {
+    if !text::starts_with(text, &sheet::head_of(digit)) || !digits::is_digit(digit) {
         return None;
     }
-    Some((digit - b'0', lines))
+    Some((digit - b'0', &text[14..]))
 }
 
 // What a first look at the lines finds: how many samples they have, and whether all of these are in range.

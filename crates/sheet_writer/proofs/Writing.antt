@@ -1,6 +1,9 @@
 -- Writing in parts: the lines that are left at a place of the samples, and the head with all lines behind it.
 -- Assumes nothing.
-use Rattle.std.proofs.Common.{◌≡◌, refl, sym, ap, ◌∙◌, List, ◌++◌, ℕ, ◌+◌, ◌<◌, ◌≤◌, ℤ, pos, length, get_or, drop, add-one, arith, length-append, drop-cons, Ok, Err, to_z, of_z, w16}
+use native.Mathlib.Nat.{not-suc-le-zero}
+use borrow.Author.Tests.{ltb-true}
+use lib.Signed.{lt_z}
+use Rattle.std.proofs.Common.{◌≡◌, refl, sym, ap, ◌∙◌, true, false, true≢false, List, [], ◌∷◌, ◌++◌, ℕ, suc, ◌+◌, ◌<◌, ◌≤◌, ℤ, pos, negsuc, nat_abs, length, get_or, drop, add-one, arith, length-append, drop-cons, Ok, Err, to_z, of_z, w16}
 use lib.Seq.{sets}
 use mir.Facts.{to_z-of_z}
 use mir.Val.{SFits}
@@ -11,10 +14,48 @@ use Rattle.calls.specs.Outcome.{outcome, as_answer, accepted}
 use Rattle.calls.proofs.Refusals.{answer_refused, answer_accepted}
 use Rattle.calls.proofs.Filling.{Filling, filling_start, filling_more}
 use Rattle.tones.proofs.Laws.{band-digit}
+use Rattle.digits.specs.Numbers.{decimal}
+use Rattle.digits.proofs.Numbers.{five_digits}
 use Rattle.sheet.specs.Text.{line_of, lines_of, head_of, sheet_of}
 use Rattle.sheet.specs.Calls.{most_bytes, write_tests, write_of}
 use Rattle.sheet.proofs.Calls.{Writable, writable}
 use Rattle.sheet_writer.proofs.Lengths.{sheet_lines}
+
+-- ---- one line
+
+-- a number and a line feed behind it
+pub number_put : (n : ℕ) (lent : List ℕ) (at : ℕ)
+    → sets (sets lent at (decimal n)) (at + length (decimal n)) (10 ∷ []) ≡ sets lent at (decimal n ++ (10 ∷ []))
+number_put n lent at = sym (sets_append lent at (decimal n) (10 ∷ []))
+
+pub number_long : (n : ℕ) → length (decimal n) + 1 ≡ length (decimal n ++ (10 ∷ []))
+number_long n = sym (length-append (decimal n) (10 ∷ []))
+
+pub number_short : (n : ℕ) → n < 65536 → length (decimal n ++ (10 ∷ [])) ≤ 6
+number_short n h = omega (arith, number_long n, five_digits n h)
+
+-- for the search of the check
+pub ruleset number = (number_put, number_long, five_digits)
+
+-- a minus in front
+pub minus_put : (z : ℤ) (lent : List ℕ) (at : ℕ) → lt_z z (pos 0) ≡ true
+    → sets (sets lent at (45 ∷ [])) (at + 1) (decimal (nat_abs z) ++ (10 ∷ [])) ≡ sets lent at (line_of z)
+unfolding line_of
+minus_put (pos n) lent at e = absurd (not-suc-le-zero (ltb-true n 0 e))
+minus_put (negsuc n) lent at e = sym (sets_append lent at (45 ∷ []) (decimal (suc n) ++ (10 ∷ [])))
+
+pub minus_long : (z : ℤ) → lt_z z (pos 0) ≡ true → 1 + length (decimal (nat_abs z) ++ (10 ∷ [])) ≡ length (line_of z)
+unfolding line_of
+minus_long (pos n) e = absurd (not-suc-le-zero (ltb-true n 0 e))
+minus_long (negsuc n) e = omega arith
+
+pub plain_line : (z : ℤ) → lt_z z (pos 0) ≡ false → decimal (nat_abs z) ++ (10 ∷ []) ≡ line_of z
+unfolding line_of
+plain_line (pos n) e = refl
+plain_line (negsuc n) e = absurd (true≢false e)
+
+-- for the search of the check
+pub ruleset signs = (minus_put, minus_long, plain_line, number_short)
 
 -- ---- the lines
 

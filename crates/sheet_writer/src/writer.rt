@@ -1,12 +1,12 @@
 // Writing: what a band and samples are refused with, and the lines of those that are not.
-ghost use Rattle.std.specs.Prelude.{◌≡◌, ◌+◌, ◌*◌, ◌^◌, ◌<◌, ◌≤◌, length, sum_by};
+ghost use Rattle.std.specs.Prelude.{◌≡◌, [], ◌∷◌, ◌++◌, ◌+◌, ◌*◌, ◌^◌, ◌<◌, ◌≤◌, length, sum_by};
 ghost use Rattle.std.proofs.lemmas.List.Edits.{sets};
 ghost use Rattle.calls.specs.Refusals.{refusal_number, first_of};
 ghost use Rattle.tones.specs.Samples.{most_samples};
+ghost use Rattle.digits.specs.Numbers.{decimal};
 ghost use Rattle.sheet.specs.Text.{line_of, lines_of};
 ghost use Rattle.sheet.specs.Calls.{most_bytes, write_tests};
 
-use arrayvec::ArrayVec;
 use calls::Refusal;
 
 // The first reason to refuse.
@@ -43,11 +43,37 @@ pub(crate) fn put_lines(out: &mut [u8], samples: &[i16]) -> usize
 {
     let mut at = 14;
     for &sample in samples {
-        let line = line_of(sample);
-        calls::put(out, at, &line);
-        at += line.len();
+        at += put_line(out, at, sample);
     }
     at
+}
+
+// Puts the line of a sample from the place `at` on, and gives its length: a minus if it is negative, the digits, and the line feed. Each
+// goes to its place by itself, since a line that is made apart and then copied takes twice the time.
+#[tactic(auto, using(crate::proofs::Writing::signs))]
+fn put_line(out: &mut [u8], at: usize, sample: i16) -> usize
+    requires { at ≤ most_bytes }
+    ensures count { result ≡ length (line_of sample) }
+    ensures lent { out.new ≡ sets out.old at (line_of sample) }
+{
+    let size = digits::magnitude(sample);
+    if sample < 0 {
+        calls::put(out, at, b"-");
+        return 1 + put_number(out, at + 1, size);
+    }
+    put_number(out, at, size)
+}
+
+// A number and a line feed likewise.
+#[tactic(auto, using(crate::proofs::Writing::number))]
+fn put_number(out: &mut [u8], at: usize, n: u16) -> usize
+    requires { at ≤ most_bytes + 1 }
+    ensures count { result ≡ length (decimal n ++ (10 ∷ [])) }
+    ensures lent { out.new ≡ sets out.old at (decimal n ++ (10 ∷ [])) }
+{
+    let digits = text::put_decimal(out, at, n);
+    calls::put(out, at + digits, b"\n");
+    digits + 1
 }
 
 // The length of all lines.
@@ -55,20 +81,14 @@ fn lines_len(samples: &[i16]) -> usize
     requires { sum_by (λ z. length (line_of z)) samples.now < 2 ^ 64 }
     ensures { result ≡ sum_by (λ z. length (line_of z)) samples.now }
 {
-    samples.iter().map(|&sample| line_of(sample).len()).sum()
+    samples.iter().map(|&sample| line_len(sample)).sum()
 }
 
-// The line of a sample: a minus if it is negative, at most five digits, and the line feed.
-#[tactic(auto, unfolding(sheet::specs::Text::line_of))]
-fn line_of(sample: i16) -> ArrayVec<u8, 7>
-    ensures { result.items ≡ line_of sample }
+// The length of a sample's line.
+#[tactic(auto, using(crate::proofs::Lengths::by_digits), unfolding(sheet::specs::Text::line_of))]
+fn line_len(sample: i16) -> usize
+    ensures { result ≡ length (line_of sample) }
 {
-    let mut line = ArrayVec::new();
-    if sample < 0 {
-        line.push(b'-');
-    }
-    let digits = digits::decimal(sample.unsigned_abs());
-    line.try_extend_from_slice(&digits).unwrap();
-    line.push(b'\n');
-    line
+    let digits = digits::count(digits::magnitude(sample));
+    if sample < 0 { digits + 2 } else { digits + 1 }
 }

@@ -7,12 +7,14 @@ ghost use Rattle.digits.specs.Numbers.{decimal};
 ghost use Rattle.text.specs.Bytes.{starts_with};
 
 // Puts the decimal digits of a number into a buffer from the place `at` on, and gives their count, with those for which there is no place.
+#[tactic(auto, using(digits::proofs::Numbers::by_library))]
 pub fn put_decimal(out: &mut [u8], at: usize, n: u16) -> usize
     ensures count { result ≡ length (decimal n) }
     ensures lent { out.new ≡ sets out.old at (decimal n) }
 {
-    let digits = digits::decimal(n);
-    calls::put(out, at, &digits);
+    let mut buffer = itoa::Buffer::new();
+    let digits = buffer.format(n).as_bytes();
+    calls::put(out, at, digits);
     digits.len()
 }
 
