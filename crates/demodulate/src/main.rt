@@ -1,12 +1,15 @@
 // Prints the events of the sheet on standard input, one to a line.
 #![tactic(auto)]
 
-use streams::Failure;
+use streams::{Failure, Plain};
 
 fn main(rt: HostRuntime) {
     // A failure is told on standard error alone; the exit status is 0 then too. Nobody could be told that this failed.
     if let Err(failure) = run(&rt) {
-        let _ = eprintln!(rt; "demodulate: {failure}");
+        let _ = match failure {
+            Failure::Input(e) => eprintln!(rt; "demodulate: standard input: {}", Plain(&e)),
+            Failure::Output(e) => eprintln!(rt; "demodulate: standard output: {}", Plain(&e.error)),
+        };
     }
 }
 

@@ -1,12 +1,15 @@
 // Prints the sheet of a message: standard input is a band digit and the characters behind it.
 #![tactic(auto)]
 
-use streams::Failure;
+use streams::{Failure, Plain};
 
 fn main(rt: HostRuntime) {
     // A failure is told on standard error alone; the exit status is 0 then too. Nobody could be told that this failed.
     if let Err(failure) = run(&rt) {
-        let _ = eprintln!(rt; "modulate: {failure}");
+        let _ = match failure {
+            Failure::Input(e) => eprintln!(rt; "modulate: standard input: {}", Plain(&e)),
+            Failure::Output(e) => eprintln!(rt; "modulate: standard output: {}", Plain(&e.error)),
+        };
     }
 }
 

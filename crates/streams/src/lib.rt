@@ -22,14 +22,6 @@ pub struct Unwritten {
     pub error: Error,
 }
 
-impl Display for Unwritten {
-    fn fmt<W: fmt::Write>(&self, f: &mut Formatter<W>) -> fmt::Result {
-        Plain(&self.error).fmt(f)
-    }
-}
-
-impl std::error::Error for Unwritten {}
-
 // Reads until the input ends or the buffer is full, and counts the bytes. A reading that failed gives no count, so that nobody takes what
 // it did read for an input.
 pub fn read_all<R: Read>(clock: &impl Clock, reader: &mut R, buf: &mut [u8]) -> io::Result<usize>
@@ -95,23 +87,12 @@ pub fn write_all<W: Write>(
     Ok(())
 }
 
-// Why a program could not make its output of its input.
+// Why a program could not make its output of its input. The programs tell it, with `Plain` for the error.
 #[derive(Clone, Copy, Debug)]
 pub enum Failure {
     Input(Error),
     Output(Unwritten),
 }
-
-impl Display for Failure {
-    fn fmt<W: fmt::Write>(&self, f: &mut Formatter<W>) -> fmt::Result {
-        match self {
-            Failure::Input(e) => write!(f, "standard input: {}", Plain(e)),
-            Failure::Output(unwritten) => write!(f, "standard output: {unwritten}"),
-        }
-    }
-}
-
-impl std::error::Error for Failure {}
 
 impl From<Unwritten> for Failure {
     ghost use Rattle.streams.specs.declared.Failure.{Failure};
