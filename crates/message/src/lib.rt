@@ -9,8 +9,10 @@ ghost use Rattle.message.specs.Message.{message_tests, send_of};
 use calls::Refusal;
 use transmitter::Transmitter;
 
-// Sends a message from the fresh transmitter of a band. It gives the count of samples.
+// Sends a message from the fresh transmitter of a band. It gives the count of samples. Inlined, since a caller for C then takes the number of a
+// refusal without a `Result` in memory.
 #[tactic(auto, using(crate::proofs::Calls::send_refused))]
+#[inline(always)]
 pub fn send(band: u8, bytes: &[u8], out: &mut [i16]) -> Result<usize, Refusal>
     ensures { outcome (as_answer result) tt out.new ≡ send_of band bytes.now out.old }
 {

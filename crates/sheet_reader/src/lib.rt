@@ -18,8 +18,10 @@ pub struct Sheet {
     pub count: usize,
 }
 
-// Reads a sheet. Its samples go to the buffer's front.
+// Reads a sheet. Its samples go to the buffer's front. Inlined, since a caller for C then takes the number of a refusal without a `Result` in
+// memory.
 #[tactic(auto, using(crate::proofs::Judged::judgements))]
+#[inline(always)]
 pub fn read(text: &[u8], out: &mut [i16]) -> Result<Sheet, Refusal>
     ensures { reading result out.new ≡ read_of text.now out.old }
 {
